@@ -1,0 +1,11 @@
+pub mod Adding
+pub mod Asking
+pub mod Judged
+pub mod Lasts
+pub mod Spans
+pub mod Growing
+pub mod Holding
+pub mod Passing
+pub mod Meaning
+pub mod Writing
+pub mod Filing

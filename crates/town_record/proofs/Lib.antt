@@ -1,0 +1,4 @@
+pub mod EachByte
+pub mod Spelled
+pub mod Tells
+pub mod Whole
