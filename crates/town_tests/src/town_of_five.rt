@@ -13,7 +13,7 @@ use town::rows::ask::RowsMap;
 use town_record::file_measure::measures::SecondsFile;
 
 /// Places MILL, QUAY, PARK, FORD and FARM, and seven arcs, in seconds.
-pub fn town() -> [u8; 192] {
+pub(crate) fn town() -> [u8; 192] {
     *b"P\0\0\0\xB2\xD0\x5E\x00MILL    \
 P\0\0\0\x3B\x9A\xCA\x00QUAY    \
 P\0\0\0\x80\x00\x00\x00PARK    \
