@@ -1,1 +1,10 @@
+pub mod Members
 pub mod Graphs
+pub mod Ways
+pub mod Kinds
+pub mod LeastLengths
+pub mod Grids
+pub mod GridGraphs
+pub mod GridSources
+pub mod WayLaws
+pub mod Alike

@@ -1,4 +1,6 @@
 //! Maps: what they are asked, and what they mean.
 
 pub mod arc;
+pub mod grid;
+pub mod law;
 pub mod map;

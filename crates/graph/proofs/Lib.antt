@@ -1,0 +1,9 @@
+pub mod Lists
+pub mod Lengths
+pub mod Places
+pub mod Joined
+pub mod Shortest
+pub mod Computed
+pub mod LeastWays
+pub mod Cells
+pub mod Alike

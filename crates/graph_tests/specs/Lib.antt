@@ -1,0 +1,3 @@
+pub mod Towns
+pub mod TownGraphs
+pub mod Worked
