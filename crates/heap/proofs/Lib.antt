@@ -1,0 +1,5 @@
+pub mod Contents
+mod Counts
+pub mod Drainings
+mod Pairs
+mod Steps

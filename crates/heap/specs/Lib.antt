@@ -1,0 +1,6 @@
+pub mod Changes
+pub mod Content
+pub mod Drained
+pub mod Heaped
+pub mod Keys
+pub mod Pairing
