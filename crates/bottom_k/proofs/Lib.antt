@@ -1,0 +1,15 @@
+pub mod Members
+pub mod Apart
+pub mod OrderedLists
+pub mod Firsts
+pub mod DueSketches
+pub mod Counting
+pub mod TurningBack
+pub mod SampleFacts
+pub mod PlacesInOrder
+pub mod PositionsAndPlaces
+pub mod NearPlaces
+pub mod EntriesCounted
+pub mod DueLists
+pub mod Marks
+pub mod SearchSteps

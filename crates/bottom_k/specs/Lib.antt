@@ -1,0 +1,14 @@
+pub mod Lists
+pub mod Ranking
+pub mod Sketches
+pub mod Samples
+pub mod Founding
+pub mod Cells
+pub mod Figures
+pub mod Search
+pub mod Steps
+pub mod Computed
+pub mod Theorems
+pub mod StepTheorems
+pub mod ComputedTheorems
+pub mod TownOfFive
