@@ -17,7 +17,7 @@ fn key_in<K: Key>(table: &Table, keys: &[K; PLACES], slot: usize) -> K
 }
 
 /// Moves the place in a slot towards the first slot, as far as its key goes.
-pub fn sift_up<K: Key>(table: &mut Table, keys: &[K; PLACES], from: usize)
+pub(crate) fn sift_up<K: Key>(table: &mut Table, keys: &[K; PLACES], from: usize)
     requires { ⌜ from < now table .len ⌝ }
     ensures len { λ _. ⌜ now (table .exit) .len ≡ now (table .entry) .len ⌝ }
     ensures waiting { λ _. ⌜ ((p : ℕ) → waits (now (table .exit) .positions) p ≡ waits (now (table .entry) .positions) p) ⌝ }
@@ -53,7 +53,7 @@ fn least_below<K: Key>(table: &Table, keys: &[K; PLACES], left: usize) -> usize
 }
 
 /// Moves the place in the first slot away from it, as far as its key goes.
-pub fn sift_down<K: Key>(table: &mut Table, keys: &[K; PLACES])
+pub(crate) fn sift_down<K: Key>(table: &mut Table, keys: &[K; PLACES])
     ensures len { λ _. ⌜ now (table .exit) .len ≡ now (table .entry) .len ⌝ }
     ensures waiting { λ _. ⌜ ((p : ℕ) → waits (now (table .exit) .positions) p ≡ waits (now (table .entry) .positions) p) ⌝ }
     ensures heaped { λ _. ⌜ (HeapedButBelow (K·Key .order) (key-in (K·Key .order) (now (keys .entry)) (now (table .entry) .slots)) (now (table .entry) .len) 0 → Heaped (K·Key .order) (key-in (K·Key .order) (now (keys .entry)) (now (table .exit) .slots)) (now (table .entry) .len)) ⌝ }

@@ -28,7 +28,7 @@ pub struct Table {
 
 impl Table {
     /// The table with every place absent.
-    pub fn empty() -> Table
+    pub(crate) fn empty() -> Table
         ensures len { λ r. ⌜ r .len ≡ 0 ⌝ }
         ensures waiting { λ r. ⌜ ((p : ℕ) → waits (r .positions) p ≡ false) ⌝ }
     {
@@ -41,14 +41,14 @@ impl Table {
     }
 
     /// How many slots hold a place.
-    pub fn len(&self) -> usize
+    pub(crate) fn len(&self) -> usize
         ensures { λ r. ⌜ r ≡ now (self .entry) .len ⌝ }
     {
         self.len
     }
 
     /// The place in a slot.
-    pub fn place(&self, slot: usize) -> u16
+    pub(crate) fn place(&self, slot: usize) -> u16
         requires { ⌜ slot < now self .len ⌝ }
         ensures { λ r. ⌜ r ≡ getD (now (self .entry) .slots) slot 0 ⌝ }
     {
@@ -56,7 +56,7 @@ impl Table {
     }
 
     /// Whether a place stands in some slot.
-    pub fn contains(&self, place: u16) -> bool
+    pub(crate) fn contains(&self, place: u16) -> bool
         requires { ⌜ place < 4096 ⌝ }
         ensures { λ r. ⌜ r ≡ waits (now (self .entry) .positions) place ⌝ }
     {
@@ -64,7 +64,7 @@ impl Table {
     }
 
     /// The slot of a place that stands in one.
-    pub fn slot(&self, place: u16) -> u16
+    pub(crate) fn slot(&self, place: u16) -> u16
         requires { ⌜ place < 4096 ⌝ ∗ ⌜ waits (now self .positions) place ≡ true ⌝ }
         ensures { λ r. ⌜ r ≡ mark (now (self .entry) .positions) place ⌝ }
     {
@@ -72,7 +72,7 @@ impl Table {
     }
 
     /// Exchanges the places in two slots.
-    pub fn swap(&mut self, i: usize, j: usize)
+    pub(crate) fn swap(&mut self, i: usize, j: usize)
         requires { ⌜ i < now self .len ⌝ ∗ ⌜ j < now self .len ⌝ }
         ensures len { λ _. ⌜ now (self .exit) .len ≡ now (self .entry) .len ⌝ }
         ensures slots { λ _. ⌜ now (self .exit) .slots ≡ exchange (now (self .entry) .slots) i j ⌝ }
@@ -87,7 +87,7 @@ impl Table {
     }
 
     /// Puts an absent place into the slot past the last.
-    pub fn append(&mut self, place: u16)
+    pub(crate) fn append(&mut self, place: u16)
         requires { ⌜ place < 4096 ⌝ ∗ ⌜ waits (now self .positions) place ≡ false ⌝ }
         ensures len { λ _. ⌜ now (self .exit) .len ≡ now (self .entry) .len + 1 ⌝ }
         ensures slots { λ _. ⌜ now (self .exit) .slots ≡ set (now (self .entry) .slots) (now (self .entry) .len) place ⌝ }
@@ -99,7 +99,7 @@ impl Table {
     }
 
     /// Takes the place out of the last slot.
-    pub fn remove_last(&mut self) -> u16
+    pub(crate) fn remove_last(&mut self) -> u16
         requires { ⌜ 0 < now self .len ⌝ }
         ensures place { λ r. ⌜ r ≡ getD (now (self .entry) .slots) (now (self .entry) .len - 1) 0 ⌝ }
         ensures len { λ _. ⌜ now (self .exit) .len ≡ now (self .entry) .len - 1 ⌝ }
