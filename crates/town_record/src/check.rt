@@ -1,7 +1,8 @@
 //! The rules of a record, each tried by a function of its own, and the lowest that is broken.
 ghost use mathlib.Core.Path.{_≡_};
 ghost use lib.ListN.{length};
-ghost use Rattle.std.specs.Options.{Cases};
+ghost use Rattle.std.specs.Options.{Cases, isSome};
+ghost use Rattle.town_record.specs.Parts.{length-bytes};
 ghost use Rattle.town_record.specs.Rules.{bad-byte, bad-value, out-of-order, out-of-room, Faultless, Lowest};
 use crate::before::Before;
 use crate::before::Limits;
@@ -35,6 +36,14 @@ fn has_bad_byte<M: FileMeasure>(record: &[u8]) -> bool
     }
 }
 
+/// Whether the field of a length holds one.
+fn has_length<M: FileMeasure>(record: &[u8]) -> bool
+    requires { ⌜ length (now «record») ≡ 16 ⌝ }
+    ensures { λ r. ⌜ r ≡ isSome (M·FileMeasure .form .length-of (length-bytes (M·FileMeasure .form .used) (now («record» .entry)))) ⌝ }
+{
+    M::read_bytes(last_eight(record)).is_some()
+}
+
 /// Whether a rank is 0, a place is not yet listed, or a length is none of the measure.
 fn has_bad_value<M: FileMeasure>(record: &[u8], before: Before) -> bool
     requires { ⌜ length (now «record») ≡ 16 ⌝ }
@@ -45,7 +54,7 @@ fn has_bad_value<M: FileMeasure>(record: &[u8], before: Before) -> bool
         ARC => {
             before.places <= from_place(record) as usize
                 || before.places <= to_place(record) as usize
-                || M::read_bytes(last_eight(record)).is_none()
+                || !has_length::<M>(record)
         }
         _ => false,
     }
