@@ -1,0 +1,14 @@
+pub mod Chains
+pub mod Rises
+pub mod Splices
+pub mod Counts
+pub mod Rewrites
+pub mod Appends
+pub mod Removals
+pub mod Ends
+pub mod Verdicts
+pub mod Starts
+pub mod MatchingWalks
+pub mod Kept
+pub mod FreeCells
+pub mod TakingBack
