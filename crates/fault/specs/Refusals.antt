@@ -7,6 +7,8 @@ use Rattle.fault.specs.declared.atlas.AtlasFault.{AtlasFault}
 use Rattle.fault.specs.declared.atlas.AtlasFault.the-variants.{RankZero, KOutOfBounds, SideOutOfBounds, StartsOutOfBounds, CellsOutOfBounds, TooShort, TestFailed, NoSuchPlace, NothingLeft, CellsRunOut}
 use Rattle.fault.specs.declared.file.FileFault.{FileFault}
 use Rattle.fault.specs.declared.file.FileFault.the-variants.{PartialRecord, BadByte, BadValue, OutOfOrder, OutOfRoom}
+use Rattle.fault.specs.declared.line.LineFault.{LineFault}
+use Rattle.fault.specs.declared.line.LineFault.the-variants.{NoForm, Atlas as Of-atlas}
 use Rattle.fault.specs.declared.memory_test.MemoryTest.{MemoryTest}
 use Rattle.fault.specs.declared.memory_test.MemoryTest.the-variants.{Order, Links, Positions, Counts, Places}
 use Rattle.fault.specs.declared.refusal.Layer.{Layer}
@@ -43,6 +45,11 @@ atlas-refusal (TestFailed test) = refusal 8 Atlas (test-number test)
 atlas-refusal (NoSuchPlace place) = refusal 9 Atlas place
 atlas-refusal (NothingLeft swept) = refusal 10 Atlas swept
 atlas-refusal (CellsRunOut place) = refusal 11 Atlas place
+
+-- a line that fits no form points at the leading bytes that it shares; the atlas's refusal is carried whole
+abbrev pub line-refusal : LineFault → Refusal
+line-refusal (NoForm shared) = refusal 12 Line shared
+line-refusal (Of-atlas fault) = atlas-refusal fault
 
 -- how a layer is printed
 abbrev pub layer-text : Layer → List ℕ

@@ -2,5 +2,6 @@
 
 pub mod atlas;
 pub mod file;
+pub mod line;
 pub mod memory_test;
 pub mod refusal;

@@ -1,0 +1,5 @@
+//! Question lines: reading them, writing them, and telling refusals.
+
+pub mod form;
+pub mod places;
+pub mod told;

@@ -1,0 +1,3 @@
+//! Question lines: which are allowed, how far any line agrees with one, and the words of a line.
+
+pub mod word;
