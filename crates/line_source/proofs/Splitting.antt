@@ -52,9 +52,9 @@ fed-byte begun after part rest i h other is =
     let left = drop (i + 1) part ++ rest in
     let opened : kept-lines begun (drop i part ++ rest) ≡ kept-lines begun (byte ∷ left) = ap (λ (l : List ℕ). kept-lines begun (l ++ rest)) (drop-more part i 0 h) in
     let goes : kept-lines begun (byte ∷ left) ≡ kept-lines (begun ++ (byte ∷ [])) left =
-        ap (λ (t : Bool). map (take 81) (cond t (begun ∷ lines-after [] left) (lines-after (begun ++ (byte ∷ [])) left))) (not-equal byte other) in
+    ap (λ (t : Bool). map (take 81) (cond t (begun ∷ lines-after [] left) (lines-after (begun ++ (byte ∷ [])) left))) (not-equal byte other) in
     let same : take 81 (begun ++ (byte ∷ [])) ≡ take 81 after =
-        sym (take-take 81 81 (begun ++ (byte ∷ [])) (omega arith)) ∙ ap (take 81) (sym is) in
+    sym (take-take 81 81 (begun ++ (byte ∷ [])) (omega arith)) ∙ ap (take 81) (sym is) in
     opened ∙ (goes ∙ same-kept 80 (begun ++ (byte ∷ [])) after left same)
   where
     not-equal : (b : ℕ) → (b ≡ 10 → ⊥) → eqb b 10 ≡ false
@@ -65,7 +65,7 @@ pub fed-newline : (begun part rest : List ℕ) (i : ℕ) → i < length part →
 fed-newline begun part rest i h is short =
     let left = drop (i + 1) part ++ rest in
     let opened : kept-lines begun (drop i part ++ rest) ≡ kept-lines begun (10 ∷ left) =
-        ap (λ (l : List ℕ). kept-lines begun (l ++ rest)) (drop-more part i 0 h) ∙ ap (λ (b : ℕ). kept-lines begun (b ∷ left)) is in
+    ap (λ (l : List ℕ). kept-lines begun (l ++ rest)) (drop-more part i 0 h) ∙ ap (λ (b : ℕ). kept-lines begun (b ∷ left)) is in
     opened ∙ ap (λ (l : List ℕ). l ∷ kept-lines [] left) (take-all 81 begun short)
 
 -- at the end of the input

@@ -18,7 +18,7 @@ pub blank-put : (items : List ℕ) (count place : ℕ) → drop count items ≡ 
 blank-put items count place blank =
     drop-set-lt (count + 1) items count place (omega arith)
     ∙ (sym (drop-drop 1 count items)
-      ∙ (ap (drop 1) blank ∙ (drop-replicate 1 (38 - count) 0 ∙ ap (λ (k : ℕ). replicate k 0) {x = 38 - count - 1} {y = 38 - (count + 1)} (omega arith))))
+    ∙ (ap (drop 1) blank ∙ (drop-replicate 1 (38 - count) 0 ∙ ap (λ (k : ℕ). replicate k 0) {x = 38 - count - 1} {y = 38 - (count + 1)} (omega arith))))
 
 module _ (p r : Places) (same : places-of p ≡ places-of r) where
   long : (q : Places) → length (places-of q) ≡ q .count
@@ -31,7 +31,7 @@ module _ (p r : Places) (same : places-of p ≡ places-of r) where
   tables =
       sym (take-append-drop (p .count) (p .items))
       ∙ ((λ i. same i ++ (p .blank ∙ (ap (λ (k : ℕ). replicate (38 - k) 0) counts ∙ sym (r .blank))) i)
-        ∙ take-append-drop (r .count) (r .items))
+      ∙ take-append-drop (r .count) (r .items))
 
   same-places : p ≡ r
   same-places = λ i. record {

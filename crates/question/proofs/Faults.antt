@@ -17,20 +17,22 @@ use Rattle.question_lines.proofs.Nearest.{no-word, no-word-none, past-end, spac
 module _ (fewest most : ℕ) (line ns : List ℕ) (at : ℕ) (s : SoFar (getD line 0 0) line ns at) (short : length line ≤ 80) where
   -- no word stands where one is expected
   pub missing : (fault : LineFault) → NoWordAt line at fault → length ns < most → fewest ≤ 2 → fewest ≤ most → (at ≡ length line → length ns < fewest) → NotLettered fewest most line fault
-  missing (NoForm e) stop few two proper early =
-      ( no-word-none (getD line 0 0) fewest most line ns at s short e stop few two proper early
-      , omega (arith, s .long, stop .from)
-      , no-word (getD line 0 0) fewest most line ns at s short e stop few two proper)
+  missing (NoForm e) stop few two proper early = (
+    no-word-none (getD line 0 0) fewest most line ns at s short e stop few two proper early,
+    omega (arith, s .long, stop .from),
+    no-word (getD line 0 0) fewest most line ns at s short e stop few two proper,
+  )
   missing (Atlas fault) stop few two proper early = stop
 
   -- something stands after the last word
   pub surplus : (fault : LineFault) → PastEnd line at fault → fewest ≤ length ns → length ns ≡ most → NotLettered fewest most line fault
   surplus (NoForm e) stop many full =
       let best = past-end (getD line 0 0) fewest most line ns at s short (stop .1) many full in
-      let itself : Share (length line) line line = record { within-a = omega arith; within-b = omega arith; same = refl } in
-      ( λ w. omega (arith, best .no-more line (length line) w itself, stop .1)
-      , omega (arith, s .long, stop .0)
-      , subst (MostShared (Lettered (getD line 0 0) fewest most) line) (sym (stop .0)) best)
+      let itself : Share (length line) line line = record { within-a = omega arith; within-b = omega arith; same = refl } in (
+        λ w. omega (arith, best .no-more line (length line) w itself, stop .1),
+        omega (arith, s .long, stop .0),
+        subst (MostShared (Lettered (getD line 0 0) fewest most) line) (sym (stop .0)) best,
+      )
   surplus (Atlas fault) stop many full = stop
 
 -- one word more at the end

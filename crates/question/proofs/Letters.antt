@@ -70,15 +70,16 @@ module _ (line : List ℕ) (short : length line ≤ 80) where
   none-shared : ((other : List ℕ) (n : ℕ) → Allowed other → Share n line other → 0 < n → ⊥) → Refused line (NoForm 0)
   none-shared none =
       let k-0 : Allowed (75 ∷ spaced (0 ∷ [])) =
-          record { letter = 75; numbers = 0 ∷ []; form = inl (refl, refl); fit = (omega arith, tt); writes = refl; short = omega (arith, few-digits 0 (omega arith), length-append (decimal 0) []) } in
-      ( (λ a. none line (length line) a (itself line) (omega (arith, ap length (a .writes))))
-      , not-long (length line) (_≡_ {A = ℕ} 0 80) (MostShared Allowed line 0) short
-        (record
-          { nearest = 75 ∷ spaced (0 ∷ [])
-          ; has = k-0
-          ; shares = record { within-a = omega arith; within-b = omega arith; same = refl }
-          ; no-more = λ other n a sh. let no : 0 < n → ⊥ = none other n a sh in omega arith
-          }))
+      record { letter = 75; numbers = 0 ∷ []; form = inl (refl, refl); fit = (omega arith, tt); writes = refl; short = omega (arith, few-digits 0 (omega arith), length-append (decimal 0) []) } in (
+        (λ a. none line (length line) a (itself line) (omega (arith, ap length (a .writes)))),
+        not-long (length line) (_≡_ {A = ℕ} 0 80) (MostShared Allowed line 0) short
+            (record {
+              nearest = 75 ∷ spaced (0 ∷ []);
+              has = k-0;
+              shares = record { within-a = omega arith; within-b = omega arith; same = refl };
+              no-more = λ other n a sh. let no : 0 < n → ⊥ = none other n a sh in omega arith;
+            }),
+      )
 
   pub empty-refused : length line ≡ 0 → Refused line (NoForm 0)
   empty-refused e = none-shared (λ other n a sh some. omega (arith, sh .within-a))
@@ -87,8 +88,8 @@ module _ (line : List ℕ) (short : length line ≤ 80) where
   letter-refused k n b s u =
       none-shared
       (λ other i a sh some.
-        let is : a .letter ≡ getD line 0 0 = sym (shared-byte i line other 0 sh some ∙ first-byte other a) in
-        form-letter (getD line 0 0) (a .numbers) (subst (λ (c : ℕ). Form c (a .numbers)) is (a .form)) k n b s u)
+      let is : a .letter ≡ getD line 0 0 = sym (shared-byte i line other 0 sh some ∙ first-byte other a) in
+      form-letter (getD line 0 0) (a .numbers) (subst (λ (c : ℕ). Form c (a .numbers)) is (a .form)) k n b s u)
 
   module _ (fewest most : ℕ) (from : (ns : List ℕ) → fewest ≤ length ns → length ns ≤ most → Form (getD line 0 0) ns) (to : (ns : List ℕ) → Form (getD line 0 0) ns → length ns ≤ 80 → (fewest ≤ length ns) × (length ns ≤ most)) where
     lettered : (other : List ℕ) (a : Allowed other) → a .letter ≡ getD line 0 0 → Lettered (getD line 0 0) fewest most other
@@ -101,18 +102,19 @@ module _ (line : List ℕ) (short : length line ≤ 80) where
     allowed other w = record { letter = getD line 0 0; numbers = w .numbers; form = from (w .numbers) (w .many) (w .few); fit = w .fit; writes = w .writes; short = w .short }
 
     pub lettered-refused : (fault : LineFault) → NotLettered fewest most line fault → Refused line fault
-    lettered-refused (NoForm e) (none, some, best) =
-        ( (λ a. none (lettered line a (sym (first-byte line a))))
-        , not-long (length line) (e ≡ 80) (MostShared Allowed line e) short
-          (record
-            { nearest = best .nearest
-            ; has = allowed (best .nearest) (best .has)
-            ; shares = best .shares
-            ; no-more = λ other n a sh.
+    lettered-refused (NoForm e) (none, some, best) = (
+      (λ a. none (lettered line a (sym (first-byte line a)))),
+      not-long (length line) (e ≡ 80) (MostShared Allowed line e) short
+          (record {
+            nearest = best .nearest;
+            has = allowed (best .nearest) (best .has);
+            shares = best .shares;
+            no-more = λ other n a sh.
                 let no : e < n → ⊥ = λ l.
-                    omega (arith, best .no-more other n (lettered other a (sym (shared-byte n line other 0 sh (omega arith) ∙ first-byte other a))) sh) in
-                omega arith
-            }))
+                omega (arith, best .no-more other n (lettered other a (sym (shared-byte n line other 0 sh (omega arith) ∙ first-byte other a))) sh) in
+                omega arith;
+          }),
+    )
     lettered-refused (Atlas fault) never = never
 
 pub some-places : (p : Places) → 2 ≤ 1 + length (places-of p)
@@ -122,11 +124,11 @@ some-places p = omega (arith, length-take-le (p .count) (p .items) (omega (arith
 pub reads : (line : List ℕ) (q : Question) → length line ≤ 80 → getD line 0 0 ≡ letter-of q → Form (letter-of q) (numbers-of q) → Lettering line (numbers-of q) → Reads line q
 reads line q short is form w =
     let text : line ≡ letter-of q ∷ spaced (numbers-of q) = w .writes ∙ ap (λ (c : ℕ). c ∷ spaced (numbers-of q)) is in
-    record
-      { allowed = record { letter = letter-of q; numbers = numbers-of q; form = form; fit = w .fit; writes = text; short = short }
-      ; writes = text
-      ; fit = w .fit
-      ; alone = λ other f e.
+    record {
+      allowed = record { letter = letter-of q; numbers = numbers-of q; form = form; fit = w .fit; writes = text; short = short };
+      writes = text;
+      fit = w .fit;
+      alone = λ other f e.
           let first : getD line 0 0 ≡ letter-of other = ap (λ (l : List ℕ). getD l 0 0) e in
-          same-question other q (sym first ∙ is) (w .alone (numbers-of other) f (e ∙ ap (λ (c : ℕ). c ∷ spaced (numbers-of other)) (sym first)))
-      }
+          same-question other q (sym first ∙ is) (w .alone (numbers-of other) f (e ∙ ap (λ (c : ℕ). c ∷ spaced (numbers-of other)) (sym first)));
+    }

@@ -41,18 +41,18 @@ fit-zeros (suc k) = (omega arith, fit-zeros k)
 
 spaced-zeros : (k : ℕ) → length (spaced (replicate k 0)) ≡ 2 * k
 spaced-zeros zero = refl
-spaced-zeros (suc k) = 
+spaced-zeros (suc k) =
     let one : length (decimal 0) ≡ 1 = ap length (decimal-digit 0 (omega arith)) in
     omega (arith, spaced-zeros k, length-append (decimal 0) (spaced (replicate k 0)))
 
 -- two lists with a front in common share its bytes
 common : (front xs ys a b : List ℕ) (n : ℕ) → a ≡ front ++ xs → b ≡ front ++ ys → n ≡ length front → Share n a b
 common front xs ys a b n is-a is-b e =
-    record
-      { within-a = omega (arith, ap length is-a, length-append front xs)
-      ; within-b = omega (arith, ap length is-b, length-append front ys)
-      ; same = ap (take n) is-a ∙ (take-at front xs n (sym e) ∙ (sym (take-at front ys n (sym e)) ∙ ap (take n) (sym is-b)))
-      }
+    record {
+      within-a = omega (arith, ap length is-a, length-append front xs);
+      within-b = omega (arith, ap length is-b, length-append front ys);
+      same = ap (take n) is-a ∙ (take-at front xs n (sym e) ∙ (sym (take-at front ys n (sym e)) ∙ ap (take n) (sym is-b)));
+    }
 
 module _ (letter fewest most : ℕ) (line ns : List ℕ) (at : ℕ) (s : SoFar letter line ns at) (short : length line ≤ 80) where
   -- what follows the numbers read in a line that goes on
@@ -65,12 +65,12 @@ module _ (letter fewest most : ℕ) (line ns : List ℕ) (at : ℕ) (s : SoFar l
   -- any line of this letter that agrees further goes on with a space and a digit
   after : (ms : List ℕ) (n : ℕ) → Fit ms → at < n → Share n line (letter ∷ spaced ms) → Goes-on ms n
   after ms n f l sh =
-      record
-        { longer = omega (arith, ap length (on .2), length-append ns (on .0 ∷ on .1))
-        ; space = shared-byte n line (letter ∷ spaced ms) at sh l ∙ (ap (λ (t : List ℕ). getD t at 0) other ∙ getD-at (letter ∷ spaced ns) 32 (decimal (on .0) ++ spaced (on .1)) 0 at (sym (s .long)))
-        ; room = omega (arith, s .long, ap length other, length-append (letter ∷ spaced ns) (32 ∷ (decimal (on .0) ++ spaced (on .1))), length-append (decimal (on .0)) (spaced (on .1)), some-digits (on .0) fits)
-        ; digit = λ h. subst (λ (b : ℕ). (48 ≤ b) × (b ≤ 57)) (sym (byte h)) (byte-of-decimal (on .0) 0 fits (some-digits (on .0) fits))
-        }
+      record {
+        longer = omega (arith, ap length (on .2), length-append ns (on .0 ∷ on .1));
+        space = shared-byte n line (letter ∷ spaced ms) at sh l ∙ (ap (λ (t : List ℕ). getD t at 0) other ∙ getD-at (letter ∷ spaced ns) 32 (decimal (on .0) ++ spaced (on .1)) 0 at (sym (s .long)));
+        room = omega (arith, s .long, ap length other, length-append (letter ∷ spaced ns) (32 ∷ (decimal (on .0) ++ spaced (on .1))), length-append (decimal (on .0)) (spaced (on .1)), some-digits (on .0) fits);
+        digit = λ h. subst (λ (b : ℕ). (48 ≤ b) × (b ≤ 57)) (sym (byte h)) (byte-of-decimal (on .0) 0 fits (some-digits (on .0) fits));
+      }
     where
       on : (m : ℕ) × (rest : List ℕ) × (ms ≡ ns ++ (m ∷ rest))
       on = goes-on letter line ns ms at n s f l sh
@@ -85,9 +85,9 @@ module _ (letter fewest most : ℕ) (line ns : List ℕ) (at : ℕ) (s : SoFar l
       byte h =
           shared-byte n line (letter ∷ spaced ms) (at + 1) sh h
           ∙ (ap (λ (t : List ℕ). getD t (at + 1) 0) other
-            ∙ (ap (λ (i : ℕ). getD ((letter ∷ spaced ns) ++ (32 ∷ (decimal (on .0) ++ spaced (on .1)))) (i + 1) 0) (s .long)
-              ∙ (getD-append-add (letter ∷ spaced ns) (32 ∷ (decimal (on .0) ++ spaced (on .1))) 1 0
-                ∙ getD-append-left (decimal (on .0)) (spaced (on .1)) 0 0 (some-digits (on .0) fits))))
+          ∙ (ap (λ (i : ℕ). getD ((letter ∷ spaced ns) ++ (32 ∷ (decimal (on .0) ++ spaced (on .1)))) (i + 1) 0) (s .long)
+          ∙ (getD-append-add (letter ∷ spaced ns) (32 ∷ (decimal (on .0) ++ spaced (on .1))) 1 0
+          ∙ getD-append-left (decimal (on .0)) (spaced (on .1)) 0 0 (some-digits (on .0) fits))))
 
   -- the line of the numbers read and some zeros
   zeros-write : (k : ℕ) → letter ∷ spaced (ns ++ replicate k 0) ≡ (letter ∷ spaced ns) ++ spaced (replicate k 0)
@@ -97,15 +97,15 @@ module _ (letter fewest most : ℕ) (line ns : List ℕ) (at : ℕ) (s : SoFar l
   with-zeros k many few room =
       let long : length (ns ++ replicate k 0) ≡ length ns + k = length-append ns (replicate k 0) ∙ ap (λ (i : ℕ). length ns + i) (length-replicate k 0) in
       let bytes : length (letter ∷ spaced (ns ++ replicate k 0)) ≡ at + 2 * k =
-          ap length (zeros-write k) ∙ (length-append (letter ∷ spaced ns) (spaced (replicate k 0)) ∙ omega (arith, spaced-zeros k, s .long)) in
-      record
-        { numbers = ns ++ replicate k 0
-        ; many = omega arith
-        ; few = omega arith
-        ; fit = fit-append ns (replicate k 0) (s .fit) (fit-zeros k)
-        ; writes = refl
-        ; short = omega arith
-        }
+      ap length (zeros-write k) ∙ (length-append (letter ∷ spaced ns) (spaced (replicate k 0)) ∙ omega (arith, spaced-zeros k, s .long)) in
+      record {
+        numbers = ns ++ replicate k 0;
+        many = omega arith;
+        few = omega arith;
+        fit = fit-append ns (replicate k 0) (s .fit) (fit-zeros k);
+        writes = refl;
+        short = omega arith;
+      }
 
   -- it agrees as far as the numbers go
   agrees : (k : ℕ) → Share at line (letter ∷ spaced (ns ++ replicate k 0))
@@ -116,9 +116,9 @@ module _ (letter fewest most : ℕ) (line ns : List ℕ) (at : ℕ) (s : SoFar l
   agrees-more k near space =
       let here : drop at line ≡ 32 ∷ drop (at + 1) line = drop-more line at 0 near ∙ ap (λ (b : ℕ). b ∷ drop (at + 1) line) space in
       let text : line ≡ ((letter ∷ spaced ns) ++ (32 ∷ [])) ++ drop (at + 1) line =
-          s .front ∙ (ap (λ (t : List ℕ). (letter ∷ spaced ns) ++ t) here ∙ sym (append-assoc (letter ∷ spaced ns) (32 ∷ []) (drop (at + 1) line))) in
+      s .front ∙ (ap (λ (t : List ℕ). (letter ∷ spaced ns) ++ t) here ∙ sym (append-assoc (letter ∷ spaced ns) (32 ∷ []) (drop (at + 1) line))) in
       let other : letter ∷ spaced (ns ++ replicate (suc k) 0) ≡ ((letter ∷ spaced ns) ++ (32 ∷ [])) ++ (decimal 0 ++ spaced (replicate k 0)) =
-          zeros-write (suc k) ∙ sym (append-assoc (letter ∷ spaced ns) (32 ∷ []) (decimal 0 ++ spaced (replicate k 0))) in
+      zeros-write (suc k) ∙ sym (append-assoc (letter ∷ spaced ns) (32 ∷ []) (decimal 0 ++ spaced (replicate k 0))) in
       common ((letter ∷ spaced ns) ++ (32 ∷ [])) (drop (at + 1) line) (decimal 0 ++ spaced (replicate k 0)) line (letter ∷ spaced (ns ++ replicate (suc k) 0)) (at + 1) text other
       (omega (arith, s .long, length-append (letter ∷ spaced ns) (32 ∷ [])))
 
@@ -149,8 +149,8 @@ module _ (letter fewest most : ℕ) (line ns : List ℕ) (at : ℕ) (s : SoFar l
         by-space (t, h) =
             let is : e ≡ at + 1 = omega (arith, stop .upto) in
             let no : e < n → ⊥ = λ l.
-                let d : (48 ≤ getD line e 0) × (getD line e 0 ≤ 57) = subst (λ (i : ℕ). (48 ≤ getD line i 0) × (getD line i 0 ≤ 57)) (sym is) (on (omega arith) .digit (omega arith)) in
-                stop .no-digit (omega arith) (omega (arith, sh .within-a)) (d .0) (d .1) in
+            let d : (48 ≤ getD line e 0) × (getD line e 0 ≤ 57) = subst (λ (i : ℕ). (48 ≤ getD line i 0) × (getD line i 0 ≤ 57)) (sym is) (on (omega arith) .digit (omega arith)) in
+            stop .no-digit (omega arith) (omega (arith, sh .within-a)) (d .0) (d .1) in
             omega arith
 
         at-once : (leb (at + 1) e ≡ false) × (e < at + 1) → n ≤ e
@@ -167,22 +167,22 @@ module _ (letter fewest most : ℕ) (line ns : List ℕ) (at : ℕ) (s : SoFar l
         by-space (t, h) =
             let is : at + 1 ≡ e = omega (arith, stop .upto) in
             let space = stop .space (omega arith) in
-            record
-              { nearest = letter ∷ spaced (ns ++ replicate (suc (fewest - (length ns + 1))) 0)
-              ; has = with-zeros (suc (fewest - (length ns + 1))) (omega arith) (omega arith) (omega (arith, space .1, few-bytes))
-              ; shares = subst (λ (i : ℕ). Share i line (letter ∷ spaced (ns ++ replicate (suc (fewest - (length ns + 1))) 0))) is (agrees-more (fewest - (length ns + 1)) (omega (arith, stop .within (s .within))) (space .0))
-              ; no-more = no-further
-              }
+            record {
+              nearest = letter ∷ spaced (ns ++ replicate (suc (fewest - (length ns + 1))) 0);
+              has = with-zeros (suc (fewest - (length ns + 1))) (omega arith) (omega arith) (omega (arith, space .1, few-bytes));
+              shares = subst (λ (i : ℕ). Share i line (letter ∷ spaced (ns ++ replicate (suc (fewest - (length ns + 1))) 0))) is (agrees-more (fewest - (length ns + 1)) (omega (arith, stop .within (s .within))) (space .0));
+              no-more = no-further;
+            }
 
         at-once : (leb (at + 1) e ≡ false) × (e < at + 1) → MostShared (Lettered letter fewest most) line e
         at-once (t, h) =
             let is : at ≡ e = omega (arith, stop .from) in
-            record
-              { nearest = letter ∷ spaced (ns ++ replicate (fewest - length ns) 0)
-              ; has = with-zeros (fewest - length ns) (omega arith) (omega arith) (omega (arith, few-bytes, s .within))
-              ; shares = subst (λ (i : ℕ). Share i line (letter ∷ spaced (ns ++ replicate (fewest - length ns) 0))) is (agrees (fewest - length ns))
-              ; no-more = no-further
-              }
+            record {
+              nearest = letter ∷ spaced (ns ++ replicate (fewest - length ns) 0);
+              has = with-zeros (fewest - length ns) (omega arith) (omega arith) (omega (arith, few-bytes, s .within));
+              shares = subst (λ (i : ℕ). Share i line (letter ∷ spaced (ns ++ replicate (fewest - length ns) 0))) is (agrees (fewest - length ns));
+              no-more = no-further;
+            }
 
     -- and the line itself is none of the letter's
     pub no-word-none : (at ≡ length line → length ns < fewest) → Lettered letter fewest most line → ⊥

@@ -105,8 +105,8 @@ same-number m n xs ys fits-m fits-n closed-m closed-n e =
     let not-above : length (decimal n) < length (decimal m) → ⊥ = not-longer n m ys xs fits-n fits-m closed-n (sym e) in
     let long : length (decimal m) ≡ length (decimal n) = omega arith in
     let front : decimal m ≡ decimal n =
-        sym (take-at (decimal m) xs (length (decimal m)) refl)
-        ∙ (ap (take (length (decimal m))) e ∙ take-at (decimal n) ys (length (decimal m)) (sym long)) in
+    sym (take-at (decimal m) xs (length (decimal m)) refl)
+    ∙ (ap (take (length (decimal m))) e ∙ take-at (decimal n) ys (length (decimal m)) (sym long)) in
     same-from-decimal m n (omega arith) (omega arith) front
 
 -- the first digit of a number in a line

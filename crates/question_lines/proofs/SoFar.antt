@@ -105,20 +105,20 @@ more letter line ns at n next s w =
         let m = on .0 in
         let rest = on .1 in
         let other : letter ∷ spaced ms ≡ (letter ∷ spaced ns) ++ (32 ∷ (decimal m ++ spaced rest)) =
-            ap (λ (l : List ℕ). letter ∷ spaced l) (on .2) ∙ ap (λ (l : List ℕ). letter ∷ l) (spaced-append ns (m ∷ rest)) in
+        ap (λ (l : List ℕ). letter ∷ spaced l) (on .2) ∙ ap (λ (l : List ℕ). letter ∷ l) (spaced-append ns (m ∷ rest)) in
         let begins : letter ∷ spaced ms ≡ ((letter ∷ spaced ns) ++ (32 ∷ decimal n)) ++ drop (length ((letter ∷ spaced ns) ++ (32 ∷ decimal n))) (letter ∷ spaced ms) =
-            shared-front k (letter ∷ spaced ms) ((letter ∷ spaced ns) ++ (32 ∷ decimal n)) (drop next line) (subst (Share k (letter ∷ spaced ms)) text (share-back k line (letter ∷ spaced ms) sh)) (omega (arith, read-long)) in
+        shared-front k (letter ∷ spaced ms) ((letter ∷ spaced ns) ++ (32 ∷ decimal n)) (drop next line) (subst (Share k (letter ∷ spaced ms)) text (share-back k line (letter ∷ spaced ms) sh)) (omega (arith, read-long)) in
         let split : letter ∷ spaced ms ≡ (letter ∷ spaced ns) ++ (32 ∷ (decimal n ++ drop next (letter ∷ spaced ms))) =
-            begins ∙ (ap (λ (i : ℕ). ((letter ∷ spaced ns) ++ (32 ∷ decimal n)) ++ drop i (letter ∷ spaced ms)) (sym read-long) ∙ append-assoc (letter ∷ spaced ns) (32 ∷ decimal n) (drop next (letter ∷ spaced ms))) in
+        begins ∙ (ap (λ (i : ℕ). ((letter ∷ spaced ns) ++ (32 ∷ decimal n)) ++ drop i (letter ∷ spaced ms)) (sym read-long) ∙ append-assoc (letter ∷ spaced ns) (32 ∷ decimal n) (drop next (letter ∷ spaced ms))) in
         let tails : 32 ∷ (decimal m ++ spaced rest) ≡ 32 ∷ (decimal n ++ drop next (letter ∷ spaced ms)) =
-            append-cancel-left (letter ∷ spaced ns) (32 ∷ (decimal m ++ spaced rest)) (32 ∷ (decimal n ++ drop next (letter ∷ spaced ms))) (sym other ∙ split) in
+        append-cancel-left (letter ∷ spaced ns) (32 ∷ (decimal m ++ spaced rest)) (32 ∷ (decimal n ++ drop next (letter ∷ spaced ms))) (sym other ∙ split) in
         let digits : decimal m ++ spaced rest ≡ decimal n ++ drop next (letter ∷ spaced ms) = cc in
         let next-byte : getD (drop next (letter ∷ spaced ms)) 0 0 ≡ getD line next 0 =
-            getD-drop next (letter ∷ spaced ms) 0 0 ∙ (ap (λ (i : ℕ). getD (letter ∷ spaced ms) i 0) {x = next + 0} {y = next} (omega arith) ∙ sym (shared-byte k line (letter ∷ spaced ms) next sh l)) in
+        getD-drop next (letter ∷ spaced ms) 0 0 ∙ (ap (λ (i : ℕ). getD (letter ∷ spaced ms) i 0) {x = next + 0} {y = next} (omega arith) ∙ sym (shared-byte k line (letter ∷ spaced ms) next sh l)) in
         let closed : Closed n (drop next (letter ∷ spaced ms)) =
-            λ some x. w .digits .whole (omega (arith, sh .within-a)) (subst (Extends n) next-byte x) in
+        λ some x. w .digits .whole (omega (arith, sh .within-a)) (subst (Extends n) next-byte x) in
         let same : m ≡ n =
-            same-number m n (spaced rest) (drop next (letter ∷ spaced ms)) (fit-after ns (m ∷ rest) (subst Fit (on .2) f) .0) (w .digits .fits) (closed-spaced m rest) closed digits in
+        same-number m n (spaced rest) (drop next (letter ∷ spaced ms)) (fit-after ns (m ∷ rest) (subst Fit (on .2) f) .0) (w .digits .fits) (closed-spaced m rest) closed digits in
         (rest, on .2 ∙ (ap (λ (i : ℕ). ns ++ (i ∷ rest)) same ∙ sym (append-assoc ns (n ∷ []) rest)))
       where
         on : (m : ℕ) × (rest : List ℕ) × (ms ≡ ns ++ (m ∷ rest))

@@ -21,7 +21,7 @@ abbrev pub Form : ℕ → List ℕ → Type 0
 Form letter ns =
     ((letter ≡ 75) × (length ns ≡ 1))
     ⊎ (((letter ≡ 78) × (length ns ≡ 1))
-      ⊎ (((letter ≡ 66) × (length ns ≡ 1)) ⊎ (((letter ≡ 83) × (length ns ≡ 2)) ⊎ ((letter ≡ 85) × (2 ≤ length ns)))))
+    ⊎ (((letter ≡ 66) × (length ns ≡ 1)) ⊎ (((letter ≡ 83) × (length ns ≡ 2)) ⊎ ((letter ≡ 85) × (2 ≤ length ns)))))
 
 -- a line is allowed if a form writes it in at most 80 bytes
 pub record Allowed (line : List ℕ) : Type 0 where

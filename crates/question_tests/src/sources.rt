@@ -19,10 +19,14 @@ fn split_at_newlines() -> Result<(), Fail> {
 
 #[test]
 fn long_line_is_cut() -> Result<(), Fail> {
-    let mut input: &[u8] = b"123456789012345678901234567890123456789012345678901234567890123456789012345678901234567890\nB 1\n";
+    let mut input: &[u8] =
+        b"123456789012345678901234567890123456789012345678901234567890123456789012345678901234567890\nB 1\n";
     let mut source = LineSource::new();
     check(source.advance(&mut input)?)?;
-    check(source.line() == b"123456789012345678901234567890123456789012345678901234567890123456789012345678901".as_slice())?;
+    check(
+        source.line()
+            == b"123456789012345678901234567890123456789012345678901234567890123456789012345678901".as_slice(),
+    )?;
     check(source.advance(&mut input)?)?;
     check(source.line() == b"B 1".as_slice())?;
     check(!source.advance(&mut input)?)

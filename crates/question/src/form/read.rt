@@ -11,10 +11,10 @@ ghost use Rattle.question_lines.specs.Words.{Lettering};
 use super::Question;
 use crate::places::Places;
 use crate::places::read::read_places;
+use fault::line::LineFault;
 use question_lines::word::LONGEST;
 use question_lines::word::end;
 use question_lines::word::word;
-use fault::line::LineFault;
 
 /// The number of a line whose letter takes one.
 fn one_number(line: &[u8]) -> Result<u32, LineFault>

@@ -7,8 +7,8 @@ ghost use Rattle.question.specs.Questions.{places-of};
 ghost use Rattle.question_lines.specs.Words.{Words};
 ghost use Rattle.question.specs.Refused.{NoWords};
 use super::Places;
-use question_lines::word::word;
 use fault::line::LineFault;
+use question_lines::word::word;
 
 impl Places {
     /// The places in the order of the line.

@@ -13,9 +13,10 @@ loop-next-holds c =
 
 pub loop-next-again : need.loop-next-again
 loop-next-again c =
-    let x = c .in-Some .ensures tt in
-    ( next-digit (c .args .line .now) (c .args .start) (c .loop-next .next) (c .loop-next .number) (c .in-Some .longer) (c .loop-next-test .taken) (c .loop-next .inv .0) (x .0) (x .1)
-    , omega (arith, x .0 .3, x .1))
+    let x = c .in-Some .ensures tt in (
+      next-digit (c .args .line .now) (c .args .start) (c .loop-next .next) (c .loop-next .number) (c .in-Some .longer) (c .loop-next-test .taken) (c .loop-next .inv .0) (x .0) (x .1),
+      omega (arith, x .0 .3, x .1),
+    )
 
 pub returns-in-None : need.returns-in-None
 returns-in-None c =

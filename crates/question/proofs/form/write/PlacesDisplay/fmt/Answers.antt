@@ -26,8 +26,8 @@ loop-place-again g c = λ plain.
     (spaced (take (c .loop-place .place-index + 1) (c .as-slice-place-items .result .now)))
     (c .write .last .self) (one-more (c .as-slice-place-items .result .now) (c .loop-place .place-index) (omega arith))
     (put-more (g .W·Write .took) (c .args .f .now) (spaced (take (c .loop-place .place-index) (c .as-slice-place-items .result .now))) (c .loop-place .f)
-      (32 ∷ decimal (getD (c .as-slice-place-items .result .now) (c .loop-place .place-index) 0))
-      (c .write .last .self) (c .loop-place .inv plain) (c .in-Continue-write .ensures tt .shows (c .loop-place .inv plain .plain) refl))
+    (32 ∷ decimal (getD (c .as-slice-place-items .result .now) (c .loop-place .place-index) 0))
+    (c .write .last .self) (c .loop-place .inv plain) (c .in-Continue-write .ensures tt .shows (c .loop-place .inv plain .plain) refl))
 
 pub returns : need.returns
 returns g c = λ plain ok.
