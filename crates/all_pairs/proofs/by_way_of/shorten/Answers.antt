@@ -8,9 +8,9 @@ pub loop-v-preserved : goal.loop-v-preserved
 loop-v-preserved g c = (
   (λ map xs places all.
       let r = c.loop-v.invariant.0 map xs places all in
-      let s = c.shorten-from.ensures.right map xs places r.0 r.1 in
+      let s = c.shorten_from.ensures.right map xs places r.0 r.1 in
       (s.0, λ k h. s.1 k (omega (arith, add-mul c.loop-v.v 1 c.args.n, one-mul c.args.n)))),
-  λ k h. c.shorten-from.ensures.rest k h ∙ c.loop-v.invariant.1 k h,
+  λ k h. c.shorten_from.ensures.rest k h ∙ c.loop-v.invariant.1 k h,
 )
 
 pub returns : goal.returns

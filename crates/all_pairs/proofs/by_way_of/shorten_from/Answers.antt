@@ -2,7 +2,7 @@ use Rattle.std.proofs.Common.{◌+◌, ◌*◌, refl, arith}
 use Rattle.std.specs.Option.{option_map}
 use Rattle.all_pairs.proofs.Steps.{inside, put_step, pass_step, same_set, same_pass}
 use Rattle.all_pairs.proofs.by_way_of.shorten_from.Goals as goal
-use Rattle.all_pairs.proofs.by_way_of.shorten_from.Goals.{in-Some, in-default}
+use Rattle.all_pairs.proofs.by_way_of.shorten_from.Goals.{in-Some, in_default}
 
 pub loop-w-init : goal.loop-w-init
 loop-w-init g c = ((λ map xs places all rows. (all, λ k h. rows k (omega arith))), λ k h. refl)
@@ -21,17 +21,17 @@ loop-w-preserved g c =
       | in-Some w ↦ (
         λ map xs places all rows.
             put_step m e map n places xs x v to table w.put.new.table after c.at.result c.at-in-loop-w.result c.joined-by.result w.at-in-Some.result w.shorter-least.result w.in-Some.length
-            c.requires.x-inside c.requires.v-inside c.loop-w-test.true (omega (arith, c.requires.whole, c.loop-w.auto.table))
+            c.requires.x_inside c.requires.v_inside c.loop-w-test.true (omega (arith, c.requires.whole, c.loop-w.auto.table))
             c.at.ensures c.at-in-loop-w.ensures c.joined-by.ensures w.in-Some.is w.at-in-Some.ensures w.shorter-least.ensures w.put.ensures w.table-is
             (c.loop-w.invariant.0 map xs places all rows),
         same_set (n * n) (n * n) (v * n + to) c.args.table.now table w.put.new.table after (option_map e.writes w.shorter-least.result)
-            w.put.ensures w.table-is (omega arith) (inside n v to c.requires.v-inside c.loop-w-test.true) c.loop-w.invariant.1,
+            w.put.ensures w.table-is (omega arith) (inside n v to c.requires.v_inside c.loop-w-test.true) c.loop-w.invariant.1,
       )
-      | in-default w ↦ (
+      | in_default w ↦ (
         λ map xs places all rows.
             pass_step m e map n places xs x v to table after c.at.result c.at-in-loop-w.result c.joined-by.result
-            c.requires.x-inside c.requires.v-inside c.loop-w-test.true
-            c.at.ensures c.at-in-loop-w.ensures c.joined-by.ensures w.in-default.is w.table-is
+            c.requires.x_inside c.requires.v_inside c.loop-w-test.true
+            c.at.ensures c.at-in-loop-w.ensures c.joined-by.ensures w.in_default.is w.table-is
             (c.loop-w.invariant.0 map xs places all rows),
         same_pass (n * n) c.args.table.now table after w.table-is c.loop-w.invariant.1,
       )

@@ -13,8 +13,8 @@ put-requires g c =
     let some : 0 < n = omega (arith, c.places-n.ensures, (g.M.Map.graph c.args.map.now).some) in
     record {
       whole = omega (arith, square _ _ _ c.places-n.ensures c.requires, c.loop-k.auto.table);
-      v-inside = div_below c.loop-k.k n n some c.loop-k-test.true;
-      w-inside = mod_below c.loop-k.k n some;
+      v_inside = div_below c.loop-k.k n n some c.loop-k-test.true;
+      w_inside = mod_below c.loop-k.k n some;
     }
 
 pub loop-k-preserved : goal.loop-k-preserved

@@ -3,7 +3,7 @@ use Rattle.std.proofs.lemmas.List.{take_all}
 use Rattle.graph.specs.Kinds.{Direct, Right}
 use Rattle.all_pairs.proofs.Steps.{arc_counts, arc_passes, arc_found}
 use Rattle.all_pairs.proofs.direct.shortest.Goals as goal
-use Rattle.all_pairs.proofs.direct.shortest.Goals.{in-Some+then-arc-v, in-Some+else-arc-v, in-default}
+use Rattle.all_pairs.proofs.direct.shortest.Goals.{in-Some+then-arc-v, in-Some+else-arc-v, in_default}
 
 pub loop-i-preserved : goal.loop-i-preserved
 loop-i-preserved g c inside =
@@ -20,9 +20,9 @@ loop-i-preserved g c inside =
       | in-Some+else-arc-v w ↦
           arc_passes m map v to i w.in-Some.arc c.arrival.result c.loop-i.least c.arrival.ensures w.in-Some.is (c.loop-i.invariant inside)
           least w.least-is w.if-arc-v.false
-      | in-default w ↦
+      | in_default w ↦
           absurd {A = Right m map (Direct (take (i + 1) (map.arriving to))) v to least}
-          (arc_found map to i c.arrivals-i-end.result c.arrival.result c.arrival.ensures w.in-default.is c.arrivals-i-end.ensures c.loop-i-test.true)
+          (arc_found map to i c.arrivals-i-end.result c.arrival.result c.arrival.ensures w.in_default.is c.arrivals-i-end.ensures c.loop-i-test.true)
     ]
 
 pub returns : goal.returns

@@ -11,7 +11,7 @@ returns g c =
     let at = c.args.at in
     let found = c.in-Some.ensures in
     let far = cell_far cells at _ (sym found) in
-    let made = c.put-cell.ensures.there far in
+    let made = c.put_cell.ensures.there far in
     record {
       there = λ d e. let same : c.in-Some.cell ≡ d = cc in made ∙ ap (λ x. set cells at (with_after x c.args.after)) same;
       surplus = ap (drop missing) made ∙ drop-set-lt missing cells at _ far;

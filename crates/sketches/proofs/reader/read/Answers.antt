@@ -6,6 +6,6 @@ use Rattle.sketches.proofs.reader.read.Goals as goal
 
 pub returns : goal.returns
 returns g c = record {
-  whole = ap (λ (r : HomeRow). forward c.args.cells.now r.first r.entries) c.row-of-row.ensures;
-  few = omega (arith, forward_few c.args.cells.now c.row-of-row.result.first c.row-of-row.result.entries);
+  whole = ap (λ (r : HomeRow). forward c.args.cells.now r.first r.entries) c.row_of-row.ensures;
+  few = omega (arith, forward_few c.args.cells.now c.row_of-row.result.first c.row_of-row.result.entries);
 }

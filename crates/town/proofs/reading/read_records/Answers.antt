@@ -26,13 +26,13 @@ loop-i-preserved g c =
     let file = c.args.file.now in
     let i = c.loop-i.i in
     let inv = c.loop-i.invariant in
-    let told = c.in-default.ensures in
+    let told = c.in_default.ensures in
     let both = told.holds (records file i) inv.3 in
     let is = read_as file (take (16 * i + 16 - 16 * i) (drop (16 * i) file)) i refl in (
       omega arith,
       told.sound,
       told.roomy,
-      holds_more f file i c.add-record.new.tables (subst (λ r. Holds f (records file i ++ r ∷ []) c.add-record.new.tables) is both.1),
+      holds_more f file i c.add_record.new.tables (subst (λ r. Holds f (records file i ++ r ∷ []) c.add_record.new.tables) is both.1),
       clean_more f c.args.limits file i inv.4 (subst (λ r. Faultless f c.args.limits (seen (records file i)) r) is both.0),
     )
 
@@ -48,7 +48,7 @@ pub returns : goal.returns
 returns g c =
     let inv = c.loop-i.invariant in
     let file = c.args.file.now in
-    let some : 0 < length file = omega (arith, eqb-false (length file) 0 (sym c.if-is-empty.ensures)) in
+    let some : 0 < length file = omega (arith, eqb-false (length file) 0 (sym c.if-is_empty.ensures)) in
     let all = accepted g.M.FileMeasure.form c.args.limits file c.loop-i.i inv.4 some c.loop-i-test.false inv.0 c.if-file-ne0.false in
     record {
       cases = (all.1, inv.1, subst (λ n. Holds g.M.FileMeasure.form (records file n) c.loop-i.tables) (sym all.0) inv.3);

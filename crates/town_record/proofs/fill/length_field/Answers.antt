@@ -13,8 +13,8 @@ padded a bytes part few sized is =
 
 pub returns : goal.returns
 returns g c =
-    let u = c.bytes-used-unused.result in
-    let same : u ≡ g.M.FileMeasure.form.used = c.bytes-used-unused.ensures in
-    padded (8 - u) c.write-bytes-bytes.result c.copy-from-slice.new.self (omega arith) (search rules) c.copy-from-slice.ensures.after
-    ∙ ap (λ n. replicate (8 - n) 0 ++ drop (8 - n) c.write-bytes-bytes.result) same
-    ∙ ap (λ t. replicate (8 - g.M.FileMeasure.form.used) 0 ++ t) c.write-bytes-bytes.ensures
+    let u = c.bytes_used-unused.result in
+    let same : u ≡ g.M.FileMeasure.form.used = c.bytes_used-unused.ensures in
+    padded (8 - u) c.write_bytes-bytes.result c.copy_from_slice.new.self (omega arith) (search rules) c.copy_from_slice.ensures.after
+    ∙ ap (λ n. replicate (8 - n) 0 ++ drop (8 - n) c.write_bytes-bytes.result) same
+    ∙ ap (λ t. replicate (8 - g.M.FileMeasure.form.used) 0 ++ t) c.write_bytes-bytes.ensures

@@ -30,6 +30,6 @@ returns c =
     let g = c.args.self.now in
     let inside : c.args.place < g.rows * g.columns = omega arith in
     let free : is_open g.bytes c.args.place ≡ true = not-false _ (sym c.barred.ensures ∙ c.if-barred.false) in
-    let all = all_sources g.rows g.columns c.args.place g.some_columns inside g.bytes (listed c.around.result) c.saturating-sub.result c.saturating-sub-2.result
-    free c.saturating-sub.ensures c.saturating-sub-2.ensures c.around.ensures in
+    let all = all_sources g.rows g.columns c.args.place g.some_columns inside g.bytes (listed c.around.result) c.saturating_sub.result c.saturating_sub-2.result
+    free c.saturating_sub.ensures c.saturating_sub-2.ensures c.around.ensures in
     record { sources = all; count = arcs_count g c.args.place (listed c.around.result) all }

@@ -10,7 +10,7 @@ loop-count-preserved g c =
     let o = g.K.Key.order in
     let before = content c.args.self.now in
     let middle = content c.loop-count.self in
-    let after = content c.take-least.new.self in
+    let after = content c.take_least.new.self in
     let places = c.loop-count.places in
     let count = c.loop-count.count in
     let place = c.in-Some.place in
@@ -41,14 +41,14 @@ returns-after-loop-count g c =
       ordered = λ ordered. (c.loop-count.invariant.3 ordered).0;
     }
 
-pub returns-in-default : goal.returns-in-default
-returns-in-default g c =
+pub returns-in_default : goal.returns-in_default
+returns-in_default g c =
     let first = c.args.self.now in
     let middle = c.loop-count.self in
-    let last = c.take-least.new.self in
+    let last = c.take_least.new.self in
     let places = c.loop-count.places in
     let count = c.loop-count.count in
-    let taken = c.in-default.ensures.taken in
+    let taken = c.in_default.ensures.taken in
     let none = size_from_none middle taken.0 in
     record {
       count = omega arith;
@@ -57,5 +57,5 @@ returns-in-default g c =
       rising = λ ordered. rising_kept first middle last places count taken.1 g.K.Key.order (c.loop-count.invariant.3 ordered).1;
       all = λ fits. all_from_none _ _ _ _ c.loop-count.invariant.2 taken.0;
       rest = c.loop-count.invariant.4;
-      ordered = λ ordered. c.in-default.ensures.ordered (c.loop-count.invariant.3 ordered).0;
+      ordered = λ ordered. c.in_default.ensures.ordered (c.loop-count.invariant.3 ordered).0;
     }

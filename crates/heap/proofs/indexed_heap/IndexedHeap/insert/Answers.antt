@@ -14,10 +14,10 @@ returns g c =
     let absent = absent_from_not h place c.requires.absent in
     record {
       with = with_written h _ place c.args.key c.requires.known refl
-          (λ p. c.sift-up.ensures.waiting p ∙ c.append.ensures.waiting p);
-      size = one_more h _ (c.sift-up.ensures.len ∙ c.append.ensures.len);
+          (λ p. c.sift_up.ensures.waiting p ∙ c.append.ensures.waiting p);
+      size = one_more h _ (c.sift_up.ensures.len ∙ c.append.ensures.len);
       ordered = λ ordered i pos lt.
-          c.sift-up.ensures.heaped
+          c.sift_up.ensures.heaped
           (append_above g.K.Key.order h place c.args.key _ _ _ absent c.append.ensures.slots c.append.ensures.len (omega arith) ordered)
           i pos (omega arith);
     }

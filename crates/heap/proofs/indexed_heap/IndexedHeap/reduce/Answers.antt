@@ -10,8 +10,8 @@ slot-slot-requires g c =
     let h = c.args.self.now in
     (c.requires.known, waits_from_by h c.args.place _ c.requires.lower)
 
-pub sift-up-requires : goal.sift-up-requires
-sift-up-requires g c =
+pub sift_up-requires : goal.sift_up-requires
+sift_up-requires g c =
     let h = c.args.self.now in
     let placed = waits_placed h.table c.args.place (waits_from_by h c.args.place _ c.requires.lower) in
     (search rules, omega (arith, c.slot-slot.ensures))
@@ -24,9 +24,9 @@ returns g c =
     let waits = waits_from_by h place _ c.requires.lower in
     record {
       with = with_written h _ place c.args.key c.requires.known refl
-          (λ p. let a = c.sift-up.ensures.waiting p in let b = eqb_tells p place in grind arith);
-      size = same_size h _ c.sift-up.ensures.len;
+          (λ p. let a = c.sift_up.ensures.waiting p in let b = eqb_tells p place in grind arith);
+      size = same_size h _ c.sift_up.ensures.len;
       ordered = λ ordered i pos lt.
-          c.sift-up.ensures.heaped
+          c.sift_up.ensures.heaped
           (lower_above g.K.Key.order h place _ c.args.key c.requires.lower c.slot-slot.ensures ordered) i pos (omega arith);
     }

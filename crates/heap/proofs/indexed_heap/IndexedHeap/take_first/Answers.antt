@@ -10,13 +10,13 @@ returns g c =
     let h = c.args.self.now in
     let o = g.K.Key.order in
     let last = c.len-last.result - 1 in
-    let place = c.remove-last-place.result in
+    let place = c.remove_last-place.result in
     let some = c.requires in
     let end : c.swap.new.self.len - 1 ≡ last = omega arith in
     let first : place ≡ get_or h.table.slots 0 0 =
-    c.remove-last-place.ensures.place ∙ ap (λ n. get_or c.swap.new.self.slots n 0) end
+    c.remove_last-place.ensures.place ∙ ap (λ n. get_or c.swap.new.self.slots n 0) end
     ∙ place_swapped h.table 0 last (omega arith) (omega arith) _ c.swap.ensures.slots in
-    let slots = c.remove-last-place.ensures.slots ∙ c.swap.ensures.slots in
+    let slots = c.remove_last-place.ensures.slots ∙ c.swap.ensures.slots in
     let keys = keys_swapped h.table 0 last (omega arith) (omega arith) o h.keys _ slots in
     record {
       removed = record {
@@ -24,11 +24,11 @@ returns g c =
         least = first_key_least o h place _ first some;
         rest = with_removed h _ place refl
             (λ p.
-            let a = c.sift-down.ensures.waiting p in
-            let b = c.remove-last-place.ensures.waiting p in
+            let a = c.sift_down.ensures.waiting p in
+            let b = c.remove_last-place.ensures.waiting p in
             let d = c.swap.ensures.waiting p in
             cc);
-        fewer = one_more _ h (omega (arith, c.sift-down.ensures.len));
+        fewer = one_more _ h (omega (arith, c.sift_down.ensures.len));
       };
-      ordered = λ ordered i pos lt. c.sift-down.ensures.heaped (take_below o h _ last _ (omega arith) (omega arith) keys ordered) i pos (omega arith);
+      ordered = λ ordered i pos lt. c.sift_down.ensures.heaped (take_below o h _ last _ (omega arith) (omega arith) keys ordered) i pos (omega arith);
     }

@@ -7,8 +7,8 @@ use Rattle.heap.proofs.table.Table.append.Goals as goal
 pub bounds-self-self : goal.bounds-self-self
 bounds-self-self c = slot_left c.args.self.now _ c.requires.0 (eqb-true _ _ (not-false _ c.requires.1))
 
-pub invariant-of-self : goal.invariant-of-self
-invariant-of-self c =
+pub invariant_of-self : goal.invariant_of-self
+invariant_of-self c =
     let t = c.args.self.now in
     let absent : mark t.positions c.args.place ≡ 4096 = eqb-true _ _ (not-false _ c.requires.1) in
     let left = slot_left t _ c.requires.0 absent in (

@@ -3,8 +3,8 @@ use Rattle.std.proofs.lemmas.List.{length-replicate}
 use Rattle.heap.proofs.Pairs.{none_wait}
 use Rattle.heap.proofs.table.Table.empty.Goals as goal
 
-pub invariant-of-result : goal.invariant-of-result
-invariant-of-result c =
+pub invariant_of-result : goal.invariant_of-result
+invariant_of-result c =
     ((length-replicate {A = ℕ} 4096 0, length-replicate {A = ℕ} 4096 4096), (lit≤ tt, ((λ i h. absurd (let k = h in omega arith)), ((λ p h. absurd (h (none_wait p))), tt))))
 
 pub returns : goal.returns

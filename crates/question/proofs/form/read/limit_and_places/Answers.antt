@@ -7,22 +7,22 @@ use Rattle.question_lines.proofs.SoFar.{start, more, more_words}
 use Rattle.question.proofs.form.read.limit_and_places.Goals as goal
 use Rattle.question.specs.Questions.{places_of}
 
-pub returns-in-err-limit : goal.returns-in-err-limit
-returns-in-err-limit c =
+pub returns-in_err-limit : goal.returns-in_err-limit
+returns-in_err-limit c =
     let line = c.args.line.now in
-    let p = err_from_is_err_and c.from-residual.result c.from-residual.ensures.1 in
-    rw (p.1, p.2) (missing 2 80 line [] 1 (start line c.requires.0) c.requires.1 c.in-err-limit.field-0.0 c.in-err-limit.ensures (omega arith) (omega arith) (omega arith) (λ _. omega arith))
+    let p = err_from_is_err_and c.from_residual.result c.from_residual.ensures.1 in
+    rw (p.1, p.2) (missing 2 80 line [] 1 (start line c.requires.0) c.requires.1 c.in_err-limit.field-0.0 c.in_err-limit.ensures (omega arith) (omega arith) (omega arith) (λ _. omega arith))
 
-pub returns-in-err-places : goal.returns-in-err-places
-returns-in-err-places c =
+pub returns-in_err-places : goal.returns-in_err-places
+returns-in_err-places c =
     let line = c.args.line.now in
-    let p = err_from_is_err_and c.from-residual-in-err-places.result c.from-residual-in-err-places.ensures.1 in
-    let first = more _ line [] 1 c.in-ok-limit.limit c.in-ok-limit.at (start line c.requires.0) c.in-ok-limit.ensures in
-    rw (p.1, p.2) (some_missing line c.in-ok-limit.limit c.in-ok-limit.at first c.requires.1 c.in-err-places.field-0.0 c.in-err-places.ensures)
+    let p = err_from_is_err_and c.from_residual-in_err-places.result c.from_residual-in_err-places.ensures.1 in
+    let first = more _ line [] 1 c.in_ok-limit.limit c.in_ok-limit.at (start line c.requires.0) c.in_ok-limit.ensures in
+    rw (p.1, p.2) (some_missing line c.in_ok-limit.limit c.in_ok-limit.at first c.requires.1 c.in_err-places.field-0.0 c.in_err-places.ensures)
 
 pub returns : goal.returns
 returns c =
     let line = c.args.line.now in
-    let first = more _ line [] 1 c.in-ok-limit.limit c.in-ok-limit.at (start line c.requires.0) c.in-ok-limit.ensures in
-    let all = more_words _ line (c.in-ok-limit.limit ∷ []) (places_of c.in-ok-places.places) c.in-ok-limit.at _ first c.in-ok-places.ensures in
-    lettering line (c.in-ok-limit.limit ∷ places_of c.in-ok-places.places) _ all refl
+    let first = more _ line [] 1 c.in_ok-limit.limit c.in_ok-limit.at (start line c.requires.0) c.in_ok-limit.ensures in
+    let all = more_words _ line (c.in_ok-limit.limit ∷ []) (places_of c.in_ok-places.places) c.in_ok-limit.at _ first c.in_ok-places.ensures in
+    lettering line (c.in_ok-limit.limit ∷ places_of c.in_ok-places.places) _ all refl

@@ -6,11 +6,11 @@ use Rattle.question.proofs.places.read.read_places.Goals as goal
 
 pub loop-at-preserved : goal.loop-at-preserved
 loop-at-preserved c =
-    let w = c.in-ok-place.ensures in
+    let w = c.in_ok-place.ensures in
     let inv = c.loop-at.invariant in (
-      words_put c.args.line.now c.args.start c.loop-at.items c.loop-at.count c.loop-at.at c.in-ok-place.place c.in-ok-place.next (omega (arith, inv.3, inv.1, w.digits.some, w.digits.within, c.requires.2)) inv.0 w,
+      words_put c.args.line.now c.args.start c.loop-at.items c.loop-at.count c.loop-at.at c.in_ok-place.place c.in_ok-place.next (omega (arith, inv.3, inv.1, w.digits.some, w.digits.within, c.requires.2)) inv.0 w,
       omega (arith, inv.1, w.digits.some),
       w.digits.within,
-      length-set c.loop-at.items c.loop-at.count c.in-ok-place.place ∙ inv.3,
-      blank_put c.loop-at.items c.loop-at.count c.in-ok-place.place inv.4,
+      length-set c.loop-at.items c.loop-at.count c.in_ok-place.place ∙ inv.3,
+      blank_put c.loop-at.items c.loop-at.count c.in_ok-place.place inv.4,
     )

@@ -3,13 +3,13 @@ use Rattle.town.specs.Files.{Accepted}
 use Rattle.town.proofs.Meaning.{has_place, reads}
 use Rattle.town.proofs.rows.Rows.read.Goals as goal
 
-pub invariant-of-result : goal.invariant-of-result
-invariant-of-result g c =
+pub invariant_of-result : goal.invariant_of-result
+invariant_of-result g c =
     let told = c.in-Ok.ensures in
     let sound = told.cases.1 in
     let room = told.roomy in
     let few = c.open-tables.ensures.few in (
-      has_place g.M.FileMeasure.form c.open-tables.result.1 c.args.file.now c.read-records.new.tables told.cases.0 told.cases.2,
+      has_place g.M.FileMeasure.form c.open-tables.result.1 c.args.file.now c.read_records.new.tables told.cases.0 told.cases.2,
       (
         let a = room.few_places in let b = few.0 in omega arith,
         (

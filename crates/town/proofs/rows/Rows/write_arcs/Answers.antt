@@ -20,7 +20,7 @@ loop-j-preserved g c was begun =
     let placed = places_counted f rows in
     let fits : 16 * (n + j) + 16 ≤ length c.loop-j.out = omega arith in
     let next : n + j + 1 ≡ n + (j + 1) = omega arith in
-    subst (λ k. Wrote (rows_records f rows) k was c.put-record.new.out) next
-    (wrote_more (rows_records f rows) (n + j) was c.loop-j.out c.put-record.new.out c.arc-record.result (c.loop-j.invariant was begun) (omega arith)
-    (arc_record_at f (place_records (vec_items t.ranks) (vec_items t.names)) (vec_items t.arcs) n j c.index.result.now (omega arith) (omega arith) c.index.ensures ∙ sym c.arc-record.ensures)
-    (search rules) fits c.put-record.ensures)
+    subst (λ k. Wrote (rows_records f rows) k was c.put_record.new.out) next
+    (wrote_more (rows_records f rows) (n + j) was c.loop-j.out c.put_record.new.out c.arc_record.result (c.loop-j.invariant was begun) (omega arith)
+    (arc_record_at f (place_records (vec_items t.ranks) (vec_items t.names)) (vec_items t.arcs) n j c.index.result.now (omega arith) (omega arith) c.index.ensures ∙ sym c.arc_record.ensures)
+    (search rules) fits c.put_record.ensures)

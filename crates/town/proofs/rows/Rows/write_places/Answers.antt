@@ -17,7 +17,7 @@ loop-i-preserved g c =
     let counted = records_counted f rows in
     let rank : c.index.result.now ≡ get_or (vec_items t.ranks) i 0 = get_or_read_under (vec_items t.ranks) i (vec_len t.ranks) c.index.result.now 0 c.index.ensures inside o in
     let fits : 16 * i + 16 ≤ length c.loop-i.out = omega arith in
-    wrote_more (rows_records f rows) i c.args.out.now c.loop-i.out c.put-record.new.out c.place-record.result c.loop-i.invariant (omega arith)
+    wrote_more (rows_records f rows) i c.args.out.now c.loop-i.out c.put_record.new.out c.place_record.result c.loop-i.invariant (omega arith)
     (place_record_at (vec_items t.ranks) (vec_items t.names) (map (arc_record f) (vec_items t.arcs)) i c.index-in-loop-i.result.now (as_many_names f rows) (omega arith) c.index-in-loop-i.ensures
-    ∙ ap (λ r. place_record r c.index-in-loop-i.result.now.bytes) (sym rank) ∙ sym c.place-record.ensures)
-    (search rules) fits c.put-record.ensures
+    ∙ ap (λ r. place_record r c.index-in-loop-i.result.now.bytes) (sym rank) ∙ sym c.place_record.ensures)
+    (search rules) fits c.put_record.ensures

@@ -10,9 +10,9 @@ use Rattle.town_record.proofs.entry.read.read_place.Goals as goal
 pub returns-in-Some : goal.returns-in-Some
 returns-in-Some g c =
     let r = c.args.record.now in
-    let fits : (i : ℕ) → get_or r i 0 < 256 = λ i. let h = c.type-inv.record i in omega arith in
+    let fits : (i : ℕ) → get_or r i 0 < 256 = λ i. let h = c.type_inv.record i in omega arith in
     let bytes = place_bytes g.M.FileMeasure.form.used r c.requires.good c.requires.place in
-    let name : c.in-Some.name.bytes ≡ name_of r = c.in-Some.ensures.1 ∙ c.last-eight.ensures in
+    let name : c.in-Some.name.bytes ≡ name_of r = c.in-Some.ensures.1 ∙ c.last_eight.ensures in
     record {
       letter = c.requires.place;
       ranked = c.rank.ensures;

@@ -17,15 +17,15 @@ loop-place-init g c = λ plain. record { wrote = writes_in_calls_nil g.W.Write.w
 pub loop-place-preserved : goal.loop-place-preserved
 loop-place-preserved g c = λ plain.
     has_written_of_eq g.W.Write.write_str_gives c.args.f.now
-    (spaced (take c.loop-place.place-index c.as-slice-place-items.result.now) ++ (32 ∷ decimal (get_or c.as-slice-place-items.result.now c.loop-place.place-index 0)))
-    (spaced (take (c.loop-place.place-index + 1) c.as-slice-place-items.result.now))
-    c.write.new.self (one_more c.as-slice-place-items.result.now c.loop-place.place-index (omega arith))
-    (has_written_append g.W.Write.write_str_gives c.args.f.now (spaced (take c.loop-place.place-index c.as-slice-place-items.result.now)) c.loop-place.f
-    (32 ∷ decimal (get_or c.as-slice-place-items.result.now c.loop-place.place-index 0))
-    c.write.new.self (c.loop-place.invariant plain) (c.in-ok-write.ensures.shows (c.loop-place.invariant plain).plain refl))
+    (spaced (take c.loop-place.place-index c.as_slice-place-items.result.now) ++ (32 ∷ decimal (get_or c.as_slice-place-items.result.now c.loop-place.place-index 0)))
+    (spaced (take (c.loop-place.place-index + 1) c.as_slice-place-items.result.now))
+    c.write.new.self (one_more c.as_slice-place-items.result.now c.loop-place.place-index (omega arith))
+    (has_written_append g.W.Write.write_str_gives c.args.f.now (spaced (take c.loop-place.place-index c.as_slice-place-items.result.now)) c.loop-place.f
+    (32 ∷ decimal (get_or c.as_slice-place-items.result.now c.loop-place.place-index 0))
+    c.write.new.self (c.loop-place.invariant plain) (c.in_ok-write.ensures.shows (c.loop-place.invariant plain).plain refl))
 
 pub returns-clause-writes : goal.returns-clause-writes
 returns-clause-writes g c = λ plain ok.
     has_written_of_eq g.W.Write.write_str_gives _ _ _ _
-    (ap spaced (take_all c.loop-place.place-index c.as-slice-place-items.result.now (omega arith) ∙ c.as-slice-place-items.ensures))
+    (ap spaced (take_all c.loop-place.place-index c.as_slice-place-items.result.now (omega arith) ∙ c.as_slice-place-items.ensures))
     (c.loop-place.invariant plain)

@@ -13,11 +13,11 @@ given false n z e = let never : ◌≡◌ {A = ℕ} 0 1 = cc in absurd (omega ar
 pub returns : goal.returns
 returns c =
     let f = c.args.field in
-    let n = c.from-be-bytes.result in
-    let told = given (leb n 65535) n c.in-ok-zones.zones c.in-ok-zones.ensures in
+    let n = c.from_be_bytes.result in
+    let told = given (leb n 65535) n c.in_ok-zones.zones c.in_ok-zones.ensures in
     let few : n ≤ 65535 = leb-true n 65535 told.0 in
-    let same : n ≡ four f 0 = c.from-be-bytes.ensures in
-    let z : c.in-ok-zones.zones ≡ n = told.1 in
+    let same : n ≡ four f 0 = c.from_be_bytes.ensures in
+    let z : c.in_ok-zones.zones ≡ n = told.1 in
     let is : leb (four f 0) 65535 ≡ true = ap (λ k. leb k 65535) (sym same) ∙ told.0 in
     ap Some (same_fares _ (fares (four f 0) (seconds (four f 4))) (omega arith) (c.new.ensures.seconds ∙ same_seconds _ (seconds (four f 4)) (omega arith)))
     ∙ sym (cond-true (leb (four f 0) 65535) _ _ is)
