@@ -53,5 +53,5 @@ impl LineSource {
 
 /// An input of more lines or parts than can be counted.
 fn too_long() -> io::Error {
-    io::Error::from_static_message(ErrorKind::InvalidData, "the input is too long")
+    io::Error::new(ErrorKind::InvalidData, "the input is too long")
 }

@@ -40,7 +40,7 @@ loop-x-preserved g c =
     let map = g.M.Map.graph c.args.map.now in
     let n = c.in_ok-n.n in
     let x = c.loop-x.x in (
-      shorten_more g.Length.Measure.laws g.Length.Measure.encoding map (n * n) x c.shorten.new.table
+      shorten_more g.M.Length.Measure.laws g.M.Length.Measure.encoding map (n * n) x c.shorten.new.table
           (c.shorten.ensures.right map (below x) (sym c.in_ok-n.ensures.0) c.loop-x.invariant.0),
       λ k h. c.shorten.ensures.rest k h ∙ c.loop-x.invariant.1 k h,
     )
@@ -51,8 +51,8 @@ returns-in_err-n g c =
     let p = err_from_is_err_and c.from_residual.result c.from_residual.ensures.1 in
     record {
       answers = rw (p.1, p.2) (c.in_err-n.ensures, refl);
-      least = least_length_right g.Length.Measure.laws map;
-      ways = way_laws g.Length.Measure.laws map;
+      least = least_length_right g.M.Length.Measure.laws map;
+      ways = way_laws g.M.Length.Measure.laws map;
     }
 
 pub returns : goal.returns
@@ -64,9 +64,9 @@ returns g c =
     record {
       answers = (
         known.1,
-        filled g.Length.Measure.laws g.Length.Measure.encoding map n c.loop-x.x c.loop-x.table known.0 c.loop-x-test.false c.loop-x.auto.x-end c.loop-x.invariant.0,
+        filled g.M.Length.Measure.laws g.M.Length.Measure.encoding map n c.loop-x.x c.loop-x.table known.0 c.loop-x-test.false c.loop-x.auto.x-end c.loop-x.invariant.0,
         λ k h. c.loop-x.invariant.1 k (omega (arith, square)) ∙ c.fill.ensures.rest k h,
       );
-      least = least_length_right g.Length.Measure.laws map;
-      ways = way_laws g.Length.Measure.laws map;
+      least = least_length_right g.M.Length.Measure.laws map;
+      ways = way_laws g.M.Length.Measure.laws map;
     }

@@ -4,8 +4,8 @@ use Rattle.std.proofs.lemmas.List.{drop_all}
 use Rattle.inspect.proofs.written_back.Goals as goal
 use Rattle.std.proofs.lemmas.Bool.Decides.{Decides-eqb}
 
-pub returns-then-is-ok : goal.returns-then-is-ok
-returns-then-is-ok c reads long =
+pub returns-then-is_ok : goal.returns-then-is_ok
+returns-then-is_ok c reads long =
     let file = c.args.file.now in
     let out = c.args.out.now in
     let same : c.write.new.out ≡ file =

@@ -19,7 +19,7 @@ put-requires g c =
 
 pub loop-k-preserved : goal.loop-k-preserved
 loop-k-preserved g c =
-    fill_step g.Length.Measure.laws g.Length.Measure.encoding (g.M.Map.graph c.args.map.now) c.places-n.result c.places-n.ensures
+    fill_step g.M.Length.Measure.laws g.M.Length.Measure.encoding (g.M.Map.graph c.args.map.now) c.places-n.result c.places-n.ensures
     c.args.table.now c.loop-k.table c.put.new.table c.loop-k.k c.shortest.result c.put.ensures
     c.loop-k-test.true (omega (arith, square _ _ _ c.places-n.ensures c.requires, c.loop-k.auto.table)) c.shortest.ensures c.loop-k.invariant
 

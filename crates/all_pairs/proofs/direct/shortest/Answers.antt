@@ -7,7 +7,7 @@ use Rattle.all_pairs.proofs.direct.shortest.Goals.{in-Some+then-arc-v, in-Some+e
 
 pub loop-i-preserved : goal.loop-i-preserved
 loop-i-preserved g c inside =
-    let m = g.Length.Measure.laws in
+    let m = g.M.Length.Measure.laws in
     let map = g.M.Map.graph c.args.map.now in
     let v = c.args.v in
     let to = c.args.w in
@@ -29,6 +29,6 @@ pub returns : goal.returns
 returns g c inside =
     let map = g.M.Map.graph c.args.map.now in
     let arcs = map.arriving c.args.w in
-    subst (λ those. Right g.Length.Measure.laws map (Direct those) c.args.v c.args.w c.loop-i.least)
+    subst (λ those. Right g.M.Length.Measure.laws map (Direct those) c.args.v c.args.w c.loop-i.least)
     (take_all c.loop-i.i arcs (omega (arith, c.arrivals-i-end.ensures, c.loop-i-test.false)))
     (c.loop-i.invariant inside)

@@ -8,8 +8,8 @@ use Rattle.sketches.proofs.cells.cell_at.Goals.{then-at-ge-MISSING-via-then-at-g
 pub returns-then-at-ge-MISSING : goal.returns-then-at-ge-MISSING
 returns-then-at-ge-MISSING g c =
     elim c.then-at-ge-MISSING.branch [
-      | far w ↦ rw (le-ltb c.args.at missing w.if-at-ge-MISSING.taken)
-      | past w ↦ rw (slice_get_past _ _ w.if-here-cells.taken, lt-ltb c.args.at missing w.if-at-ge-MISSING.left)
+      | far w ↦ rw (le-ltb c.args.at missing w.if-at-ge-MISSING.true)
+      | past w ↦ rw (slice_get_past _ _ w.if-here-cells.true, lt-ltb c.args.at missing w.if-at-ge-MISSING.false)
     ]
 
 pub returns : goal.returns

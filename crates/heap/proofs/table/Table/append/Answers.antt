@@ -11,10 +11,9 @@ pub invariant_of-self : goal.invariant_of-self
 invariant_of-self c =
     let t = c.args.self.now in
     let absent : mark t.positions c.args.place ≡ 4096 = eqb-true _ _ (not-false _ c.requires.1) in
-    let left = slot_left t _ c.requires.0 absent in (
-      (simp length-set t.sized.0, simp length-set t.sized.1),
-      (
-        omega arith,
-        (append_filled t _ c.requires.0 absent, (append_placed t _ c.requires.0 absent, tt)),
-      ),
-    )
+    let left = slot_left t _ c.requires.0 absent in record {
+      sized = (simp length-set t.sized.0, simp length-set t.sized.1);
+      room = omega arith;
+      filled = append_filled t _ c.requires.0 absent;
+      placed = append_placed t _ c.requires.0 absent;
+    }

@@ -8,16 +8,18 @@ invariant_of-result g c =
     let told = c.in-Ok.ensures in
     let sound = told.cases.1 in
     let room = told.roomy in
-    let few = c.open-tables.ensures.few in (
-      has_place g.M.FileMeasure.form c.open-tables.result.1 c.args.file.now c.read_records.new.tables told.cases.0 told.cases.2,
-      (
-        let a = room.few_places in let b = few.0 in omega arith,
-        (
-          let a = room.few_arcs in let b = few.1 in omega arith,
-          (sound.named, (sound.spanned, (sound.inside, (sound.ends, (sound.arrive, (sound.begun, (sound.not_past, tt))))))),
-        ),
-      ),
-    )
+    let few = c.open-tables.ensures.few in record {
+      some = has_place g.M.FileMeasure.form c.open-tables.result.1 c.args.file.now c.read_records.new.tables told.cases.0 told.cases.2;
+      few_places = (let a = room.few_places in let b = few.0 in omega arith);
+      few_arcs = (let a = room.few_arcs in let b = few.1 in omega arith);
+      named = sound.named;
+      spanned = sound.spanned;
+      inside = sound.inside;
+      ends = sound.ends;
+      arrive = sound.arrive;
+      begun = sound.begun;
+      not_past = sound.not_past;
+    }
 
 pub returns-in-Ok : goal.returns-in-Ok
 returns-in-Ok g c =

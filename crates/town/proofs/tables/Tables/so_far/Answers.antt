@@ -13,14 +13,14 @@ returns g c =
     let ys = c.deref.result.now in
     let long : n ≡ length ys = sym c.deref.ensures.len in
     let same : ys ≡ xs = c.deref.ensures.value in
-    let last : c.match-last.last-to ≡ get_or (tos xs) (n - 1) 0 = elim c.match-last.branch [
+    let last : c.match-last.last_to ≡ get_or (tos xs) (n - 1) 0 = elim c.match-last.branch [
       | in-Some w ↦
           let item = w.in-Some.ensures.item in
           let a = w.in-Some.arc.now in
           let some = ltb-true 0 (length ys) (sym item.0) in
-          w.last-to-is ∙ last_to ys n long a (omega arith) (subst (λ k. a ≡ get_or ys (k - 1) a) (sym long) item.1) ∙ ap (λ zs. get_or (tos zs) (n - 1) 0) same
+          w.last_to-is ∙ last_to ys n long a (omega arith) (subst (λ k. a ≡ get_or ys (k - 1) a) (sym long) item.1) ∙ ap (λ zs. get_or (tos zs) (n - 1) 0) same
       | in-None w ↦
           let item = w.in-None.ensures.item in
-          w.last-to-is ∙ no_last ys n long item.3 ∙ ap (λ zs. get_or (tos zs) (n - 1) 0) same
+          w.last_to-is ∙ no_last ys n long item.3 ∙ ap (λ zs. get_or (tos zs) (n - 1) 0) same
     ] in
     λ i. record { places = c.len.ensures i; arcs = c.len-2.ensures i; last_to = last i }

@@ -14,15 +14,15 @@ returns-then-place-self g c =
     let t = c.args.self.now in
     none_beyond t.places t.starts t.arcs c.args.place c.args.i c.if-place-self.true
 
-pub overflow-add-k : goal.overflow-add-k
-overflow-add-k g c =
+pub overflow_add-k : goal.overflow_add-k
+overflow_add-k g c =
     let t = c.args.self.now in
     let i : c.args.i < length (arcs_to t.places t.starts t.arcs c.args.place) = omega (arith, c.arrivals.ensures, c.if-i-arrivals.false) in
     let k : get_or t.starts c.args.place 0 + c.args.i < 8 = at_is t.places t.starts t.arcs t.arcs_whole c.args.place c.if-place-self.false c.args.i i in
     search rules
 
-pub offset-bounds-self-k : goal.offset-bounds-self-k
-offset-bounds-self-k g c =
+pub offset_bounds-self-k : goal.offset_bounds-self-k
+offset_bounds-self-k g c =
     let t = c.args.self.now in
     let i : c.args.i < length (arcs_to t.places t.starts t.arcs c.args.place) = omega (arith, c.arrivals.ensures, c.if-i-arrivals.false) in
     let k : get_or t.starts c.args.place 0 + c.args.i < 8 = at_is t.places t.starts t.arcs t.arcs_whole c.args.place c.if-place-self.false c.args.i i in

@@ -22,7 +22,7 @@ loop-place-preserved g c = λ plain.
     c.write.new.self (one_more c.as_slice-place-items.result.now c.loop-place.place-index (omega arith))
     (has_written_append g.W.Write.write_str_gives c.args.f.now (spaced (take c.loop-place.place-index c.as_slice-place-items.result.now)) c.loop-place.f
     (32 ∷ decimal (get_or c.as_slice-place-items.result.now c.loop-place.place-index 0))
-    c.write.new.self (c.loop-place.invariant plain) (c.in_ok-write.ensures.shows (c.loop-place.invariant plain).plain refl))
+    c.write.new.self (c.loop-place.invariant plain) (c.in_ok-write.ensures.writes (c.loop-place.invariant plain).plain refl))
 
 pub returns-clause-writes : goal.returns-clause-writes
 returns-clause-writes g c = λ plain ok.
