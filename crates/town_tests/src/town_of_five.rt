@@ -39,7 +39,14 @@ fn places_have_their_ranks_and_names(rt: HostRuntime) -> Result<(), Fail> {
     assert_eq!(rt; rows.arcs(), 7);
     assert_eq!(rt;
         rows.ranks(),
-        &[3000000000, 1000000000, 2147483648, 1000000000, 4000000000]
+        [
+            3000000000u32,
+            1000000000,
+            2147483648,
+            1000000000,
+            4000000000
+        ]
+        .as_slice()
     );
     let names: [&[u8]; 5] = [b"MILL", b"QUAY", b"PARK", b"FORD", b"FARM"];
     for (name, due) in rows.names().iter().zip(names.iter()) {
@@ -79,9 +86,9 @@ fn written_back_over_the_front(rt: HostRuntime) -> Result<(), Fail> {
     let mut out = [7u8; 200];
     assert_eq!(rt; rows.write(&mut out)?, 192);
     assert_eq!(rt; &out[0..192], &file[0..192]);
-    assert_eq!(rt; &out[192..200], &[7u8; 8]);
+    assert_eq!(rt; &out[192..200], [7u8; 8].as_slice());
     let mut short = [7u8; 191];
     assert_eq!(rt; rows.write(&mut short), Err(AtlasFault::TooShort(192)));
-    assert_eq!(rt; &short[0..191], &[7u8; 191]);
+    assert_eq!(rt; &short[0..191], [7u8; 191].as_slice());
     Ok(())
 }

@@ -4,11 +4,11 @@ use Rattle.tables.proofs.Starts.{linked_start}
 use Rattle.examine.proofs.links.linked.Goals as goal
 
 pub loop-init : goal.loop-init
-loop-init g c = linked_start c.args.home.now c.args.cells.now c.args.v c.row-of-row.result c.row-of-row.ensures
+loop-init g c = linked_start c.args.home.now c.args.cells.now c.args.v c.row_of-row.result c.row_of-row.ensures
 
-pub returns-in-default : goal.returns-in-default
-returns-in-default g c =
-    refuted (chain_ends c.args.cells.now _ _ _ _ _ _ _ c.loop-test.true c.loop.invariant (sym c.in-default.ensures))
+pub returns-in_default : goal.returns-in_default
+returns-in_default g c =
+    refuted (chain_ends c.args.cells.now _ _ _ _ _ _ _ c.loop-test.true c.loop.invariant (sym c.in_default.ensures))
 
 pub returns-then-cell-v : goal.returns-then-cell-v
 returns-then-cell-v g c =

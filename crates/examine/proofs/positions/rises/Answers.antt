@@ -4,10 +4,10 @@ use Rattle.tables.proofs.Starts.{rises_start}
 use Rattle.examine.proofs.positions.rises.Goals as goal
 
 pub loop-init : goal.loop-init
-loop-init g c = rises_start c.args.home.now c.args.cells.now c.args.v c.row-of-row.result c.row-of-row.ensures c.args.swept
+loop-init g c = rises_start c.args.home.now c.args.cells.now c.args.v c.row_of-row.result c.row_of-row.ensures c.args.swept
 
-pub returns-in-default : goal.returns-in-default
-returns-in-default g c = (λ _. c.loop.invariant.1 (rw (forward_none c.args.cells.now _ _ (sym c.in-default.ensures)) tt), λ _. refl)
+pub returns-in_default : goal.returns-in_default
+returns-in_default g c = (λ _. c.loop.invariant.1 (rw (forward_none c.args.cells.now _ _ (sym c.in_default.ensures)) tt), λ _. refl)
 
 pub returns-then-cell-lowest : goal.returns-then-cell-lowest
 returns-then-cell-lowest g c =
