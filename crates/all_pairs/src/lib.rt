@@ -1,4 +1,6 @@
 //! The least lengths of the ways between all pairs of places of a map.
+#![tactic(auto)]
+
 ghost use Rattle.std.specs.Prelude.{◌≡◌, ℕ, MatchResult};
 ghost use Rattle.fault.specs.Causes.{Clear, Refused};
 ghost use Rattle.fault.specs.Refusals.{atlas_refusal};

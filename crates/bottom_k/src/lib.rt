@@ -2,6 +2,7 @@
 //!
 //! The definitions of the order of places, sketches, samples, figures and the number of entries due stand in `specs/`.
 //! Each theorem about them is the contract of a function here, so that the crate is proved only with it.
+#![tactic(auto)]
 
 pub mod argument;
 pub mod computing;

@@ -3,6 +3,8 @@
 //! They take a number of steps that is linear in the rows and cells. A walk that follows the links checks each cell's link back
 //! against the cell that it comes from, and its owner: so it comes to no cell twice, and no cell is on two walks. Once the
 //! test of links has passed, the later walks follow the same cells.
+#![tactic(auto)]
+
 ghost use Rattle.std.specs.Prelude.{Decides, MatchResult};
 ghost use Rattle.tables.specs.Tests.{PlacesTest, Sound, FailsFirst};
 

@@ -1,4 +1,5 @@
 //! Maps: what they are asked, and what they mean.
+#![tactic(auto)]
 
 pub mod arc;
 pub mod grid;

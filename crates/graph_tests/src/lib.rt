@@ -1,4 +1,5 @@
 //! Worked cases and tests of maps and least lengths.
+#![tactic(auto)]
 
 #[cfg(test)]
 mod grid_tests;

@@ -1,4 +1,5 @@
 //! The queue of waiting places: an indexed binary heap, for any key with a total order and a least key.
+#![tactic(auto)]
 
 pub mod indexed_heap;
 pub mod key;

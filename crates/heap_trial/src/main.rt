@@ -1,4 +1,6 @@
 //! Mixed operations on a heap of ranks and places, as many as one wants to time.
+#![tactic(auto)]
+
 ghost use Rattle.std.specs.Prelude.{◌≡◌, ◌+◌, ◌*◌, ◌%◌, ◌^◌};
 ghost use Rattle.heap.specs.Content.{Ordered};
 ghost use Rattle.heap.specs.Keys.{rank_place_order};

@@ -1,4 +1,6 @@
 //! Reads town.map in its folder, in seconds, and says what it found.
+#![tactic(auto)]
+
 ghost use Rattle.std.specs.Prelude.{◌≡◌, true, length};
 ghost use Rattle.town.specs.Reads.{Reads};
 ghost use Rattle.town_record.specs.Measures.{seconds_form};

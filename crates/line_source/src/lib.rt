@@ -1,4 +1,6 @@
 //! The lines of an input, one at a time.
+#![tactic(auto)]
+
 ghost use Rattle.std.specs.Prelude.{◌≡◌, ◌≤◌, length};
 
 mod advance;

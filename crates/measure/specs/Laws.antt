@@ -1,6 +1,6 @@
 -- What a measure is: lengths with a zero, a join and a comparison, and the laws that these keep.
-use Rattle.std.specs.Prelude.{◌≡◌, Bool, true, false, cond, T, ◌⊎◌, refl}
-use Rattle.std.proofs.Common.{sym, ap, subst, inl, inr, ⊎_elim}
+use Rattle.std.specs.Prelude.{◌≡◌, Bool, true, false, cond, T, ◌⊎◌}
+use Rattle.std.proofs.Common.{⊎_elim}
 use Rattle.measure.specs.Orders.{TotalOrder}
 
 -- a totally ordered monoid whose zero is at most every length

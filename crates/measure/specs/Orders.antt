@@ -1,6 +1,6 @@
 -- Total orders with a least element, and how they are built from one another.
-use Rattle.std.specs.Prelude.{◌≡◌, ℕ, ◌≤◌, Bool, true, false, cond, ◌&&◌, T, leb, ◌⊎◌, refl}
-use Rattle.std.proofs.Common.{sym, ap, subst, ◌∙◌, inl, inr, ⊎_elim, arith, leb→le, le→leb}
+use Rattle.std.specs.Prelude.{◌≡◌, ℕ, Bool, true, false, cond, ◌&&◌, T, leb, ◌⊎◌}
+use Rattle.std.proofs.Common.{sym, subst, inl, inr, ⊎_elim, arith, leb→le, le→leb}
 use Rattle.std.proofs.lemmas.Bool.{cases_lt}
 
 -- a comparison that is total, transitive and antisymmetric, with an element at most every other

@@ -1,6 +1,6 @@
 -- Seconds: 0 to 4,294,967,295, the sum held at the largest.
-use Rattle.std.specs.Prelude.{◌≡◌, ℕ, ◌+◌, ◌-◌, ◌^◌, ◌<◌, min, T, leb, refl}
-use Rattle.std.proofs.Common.{ap, arith, leb→le, le→leb}
+use Rattle.std.specs.Prelude.{◌≡◌, ℕ, ◌+◌, ◌^◌, ◌<◌, min, refl}
+use Rattle.std.proofs.Common.{arith, leb→le, le→leb}
 use mathlib.Core.HLevel.{is_prop→PathP}
 use Rattle.std.proofs.Math.Bridge.{le_prop}
 use Rattle.measure.specs.Orders.{TotalOrder, number_order, order_by}

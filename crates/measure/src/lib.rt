@@ -1,4 +1,6 @@
 //! Measures of length: what a way is measured in, with the laws that every theorem about ways rests on.
+#![tactic(auto)]
+
 ghost use Rattle.std.specs.Prelude.{◌≡◌};
 ghost use Rattle.measure.specs.Laws.{OrderedMonoid, RowEncoding};
 

@@ -1,4 +1,5 @@
 //! Tests of the memory of an atlas: damaged tables with the test that each fails, sound ones, and work on sketches.
+#![tactic(auto)]
 
 #[cfg(test)]
 mod damaged;

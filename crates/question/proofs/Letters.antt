@@ -1,9 +1,9 @@
 -- From the lines of one letter to all allowed lines.
-use Rattle.std.proofs.Common.{◌≡◌, ℕ, ◌+◌, ◌*◌, ◌<◌, ◌≤◌, false, ltb, List, [], ◌∷◌, ◌++◌, length, get_or, decimal, MatchBool, sym, refl, ap, ◌∙◌, subst, inl, inr, arith, length-append}
+use Rattle.std.proofs.Common.{◌≡◌, ℕ, ◌+◌, ◌<◌, ◌≤◌, false, ltb, List, [], ◌∷◌, length, get_or, decimal, MatchBool, sym, refl, ap, ◌∙◌, subst, inl, inr, arith, length-append}
 use Rattle.std.proofs.lemmas.Bool.Decides.{nat_tests}
 use Rattle.fault.specs.declared.line.LineFault.{LineFault}
 use Rattle.fault.specs.declared.line.LineFault.TheVariants.{NoForm, Atlas}
-use Rattle.question_lines.specs.Lines.{spaced, Fit, Form, Allowed, Share, MostShared}
+use Rattle.question_lines.specs.Lines.{spaced, Form, Allowed, Share, MostShared}
 use Rattle.question.specs.Refused.{Refused, NotLettered}
 use Rattle.question.specs.Questions.{places_of, letter_of, numbers_of, Reads}
 use Rattle.question_lines.specs.Words.{Lettered, Lettering}

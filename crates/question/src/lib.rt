@@ -1,4 +1,5 @@
 //! Question lines: reading them, writing them, and telling refusals.
+#![tactic(auto)]
 
 pub mod form;
 pub mod places;

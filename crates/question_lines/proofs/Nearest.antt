@@ -2,7 +2,7 @@
 use Rattle.std.proofs.Common.{◌≡◌, ℕ, zero, suc, ◌+◌, ◌-◌, ◌*◌, ◌^◌, ◌<◌, ◌≤◌, true, false, leb, List, [], ◌∷◌, ◌++◌, length, get_or, take, drop, replicate, decimal, sym, refl, ap, ◌∙◌, subst, ⊎_elim, append_assoc, arith, length-append}
 use Rattle.std.proofs.lemmas.Bool.Decides.{leb_tells}
 use Rattle.std.proofs.lemmas.Fmt.{decimal_digit}
-use Rattle.std.proofs.lemmas.List.{append-nil, append_cancel_left, take-append-drop, take_at, drop_at, get_or_at, drop_more, drop_all, length-drop, get_or-append_right, take-append-le, length-replicate, take_all, get_or-append-add, get_or_append_left}
+use Rattle.std.proofs.lemmas.List.{append-nil, take_at, get_or_at, drop_more, drop_all, length-replicate, get_or-append-add, get_or_append_left}
 use Rattle.question_lines.specs.Lines.{spaced, Fit, Share, MostShared}
 use Rattle.question_lines.specs.Words.{NoWord, Lettered, Lettering}
 use Rattle.question_lines.proofs.Numbers.{some_digits, few_digits, byte_of_decimal}

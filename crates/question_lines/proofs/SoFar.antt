@@ -1,10 +1,10 @@
 -- Reading a line from its letter on, word by word: what is known of all lines that agree with it further than it was read.
-use Rattle.std.proofs.Common.{◌≡◌, ℕ, zero, suc, ◌+◌, ◌-◌, ◌*◌, ◌^◌, ◌<◌, ◌≤◌, List, [], ◌∷◌, ◌++◌, length, get_or, take, drop, decimal, sym, refl, ap, ◌∙◌, subst, append_assoc, arith, length-append}
-use Rattle.std.proofs.lemmas.List.{append-nil, append_cancel_left, take-append-drop, take_at, drop_at, get_or_at, length-take-le, get_or_append_left, drop_more, drop_all, length-drop, get_or-take, get_or-append_right, get_or-drop, take-append-le}
+use Rattle.std.proofs.Common.{◌≡◌, ℕ, ◌+◌, ◌-◌, ◌<◌, ◌≤◌, List, [], ◌∷◌, ◌++◌, length, get_or, drop, decimal, sym, refl, ap, ◌∙◌, subst, append_assoc, arith, length-append}
+use Rattle.std.proofs.lemmas.List.{append-nil, append_cancel_left, get_or_append_left, drop_more, length-drop, get_or-take, get_or-drop}
 use Rattle.std.proofs.lemmas.List.Prefix.{front_from_reads}
 use Rattle.question_lines.specs.Lines.{spaced, Fit, Share}
-use Rattle.question_lines.specs.Words.{Extends, Digits, Word, Words}
-use Rattle.question_lines.proofs.Numbers.{Closed, same_number, some_digits, few_digits, byte_of_decimal}
+use Rattle.question_lines.specs.Words.{Extends, Word, Words}
+use Rattle.question_lines.proofs.Numbers.{Closed, same_number}
 
 pub shared_byte : (n : ℕ) (a b : List ℕ) (i : ℕ) → Share n a b → i < n → get_or a i 0 ≡ get_or b i 0
 shared_byte n a b i s h = sym (get_or-take n a i 0 h) ∙ (ap (λ (l : List ℕ). get_or l i 0) s.same ∙ get_or-take n b i 0 h)

@@ -1,3 +1,4 @@
 //! Question lines: which are allowed, how far any line agrees with one, and the words of a line.
+#![tactic(auto)]
 
 pub mod word;

@@ -1,4 +1,5 @@
 //! Lines with the question or the refusal that each is due.
+#![tactic(auto)]
 
 #[cfg(test)]
 mod lines;

@@ -1,14 +1,14 @@
 -- An entry more at the end of a sketch.
-use Rattle.std.proofs.Common.{◌≡◌, ℕ, zero, suc, ◌+◌, ◌-◌, ◌<◌, ◌≤◌, min, ◌≢◌, List, [], ◌∷◌, ◌++◌, length, set, Some, sym, refl, ap, ◌∙◌, subst, ⊎_elim, add-one, arith}
+use Rattle.std.proofs.Common.{◌≡◌, ℕ, suc, ◌+◌, ◌-◌, ◌<◌, min, ◌≢◌, List, [], ◌∷◌, ◌++◌, set, Some, sym, refl, ap, ◌∙◌, subst, ⊎_elim, add-one, arith}
 use Rattle.std.proofs.lemmas.Bool.{cases_eq}
 use Rattle.tables.specs.declared.rows.HomeRow.{HomeRow}
 use Rattle.tables.specs.declared.rows.Cell.{Cell}
 use Rattle.tables.specs.declared.rows.Entry.{Entry}
 use Rattle.tables.specs.Rows.{missing, home_at, cell_at}
-use Rattle.tables.specs.Walks.{noted, forward, plain_sketch, positions, Chain}
-use Rattle.tables.specs.Tests.{RisingBelow, cells_taken, entries_total}
+use Rattle.tables.specs.Walks.{forward, plain_sketch, positions, Chain}
+use Rattle.tables.specs.Tests.{RisingBelow, cells_taken}
 use Rattle.tables.specs.Changes.{CanAppend, Appended, Free, with_after}
-use Rattle.tables.proofs.Rises.{Rises, rises_all, rises_from, rising_from, rises_push}
+use Rattle.tables.proofs.Rises.{Rises, rises_all, rising_from, rises_push}
 use Rattle.tables.proofs.Splices.{apart, cell_far, cell_in, cell_set_same, cell_set_other, chain_stays, chain_push, forward_push, before_last, relinked, last_cell}
 use Rattle.tables.proofs.Counts.{entries_set, entries_few, taken_same, taken_more, taken_few}
 use Rattle.tables.proofs.Rewrites.{here_sketch, other_sketches, all_linked, all_rising}

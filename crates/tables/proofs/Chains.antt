@@ -1,5 +1,5 @@
 -- How a loop that goes from cell to cell steps along a walk.
-use Rattle.std.proofs.Common.{◌≡◌, ℕ, zero, suc, ◌+◌, ◌-◌, ◌<◌, ◌≤◌, min, Bool, true, false, cond, List, [], ◌∷◌, map, length, take, Some, None, Decides, Option, sym, refl, ap, ◌∙◌, ⊎_elim, not-suc-le-zero, arith, take_all}
+use Rattle.std.proofs.Common.{◌≡◌, ℕ, zero, suc, ◌+◌, ◌-◌, ◌<◌, ◌≤◌, min, true, false, List, [], ◌∷◌, map, length, take, Some, None, Decides, Option, sym, refl, ap, ◌∙◌, ⊎_elim, not-suc-le-zero, arith, take_all}
 use Rattle.std.proofs.lemmas.Bool.{false≢true, cases_lt}
 use Rattle.measure.specs.Laws.{OrderedMonoid, RowEncoding}
 use Rattle.bottom_k.specs.Sketches.{entries_within}

@@ -1,7 +1,6 @@
 -- How writes change the counts of test 4.
-use Rattle.std.proofs.Common.{◌≡◌, ℕ, ◌+◌, ◌<◌, ◌≤◌, min, Bool, true, false, cond, ltb, List, length, get_or, take, set, Some, sum_by, count_by, sym, refl, ap, ◌∙◌, arith, length-take, length-take-le, get_or-take}
+use Rattle.std.proofs.Common.{◌≡◌, ℕ, ◌+◌, ◌<◌, ◌≤◌, cond, ltb, List, length, get_or, take, set, Some, sum_by, sym, ap, ◌∙◌, arith, length-take, length-take-le, get_or-take}
 use lib.Seq.{take-set-lt}
-use Rattle.std.proofs.lemmas.Option.{slice_get-get_or}
 use Rattle.std.proofs.lemmas.List.Sums.{sum_by-set, get_or-le-sum_by, count_by-le-length}
 use Rattle.std.proofs.lemmas.Bool.{lt-ltb, le-ltb}
 use Rattle.tables.specs.declared.rows.HomeRow.{HomeRow}

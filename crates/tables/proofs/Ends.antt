@@ -1,8 +1,7 @@
 -- The last entry of a sketch stands in its last cell.
-use Rattle.std.proofs.Common.{◌≡◌, ℕ, zero, suc, ◌-◌, ◌<◌, ◌≤◌, List, [], ◌∷◌, ◌++◌, Some, None, sym, refl, ap, ◌∙◌, subst, arith}
+use Rattle.std.proofs.Common.{◌≡◌, ℕ, suc, ◌-◌, ◌<◌, List, [], ◌∷◌, ◌++◌, Some, None, ap, ◌∙◌, subst, arith}
 use Rattle.tables.specs.declared.rows.HomeRow.{HomeRow}
 use Rattle.tables.specs.declared.rows.Cell.{Cell}
-use Rattle.tables.specs.declared.rows.Entry.{Entry}
 use Rattle.tables.specs.Rows.{missing, home_at, cell_at}
 use Rattle.tables.specs.Walks.{noted, forward, plain_sketch, Chain, Linked}
 use Rattle.tables.proofs.Splices.{chain_pop, forward_push, last_cell}

@@ -1,5 +1,5 @@
 -- How many cells are taken where all are, and where none is; what empty tables pass.
-use Rattle.std.proofs.Common.{◌≡◌, ℕ, zero, suc, ◌+◌, ◌<◌, ◌≤◌, min, Bool, true, false, cond, ltb, List, [], ◌∷◌, map, length, get_or, take, Some, sum_by, count_by, sym, refl, ap, ◌∙◌, subst, ⊎_elim, arith}
+use Rattle.std.proofs.Common.{◌≡◌, ℕ, zero, suc, ◌+◌, ◌<◌, ◌≤◌, min, cond, ltb, List, [], ◌∷◌, length, take, Some, sum_by, count_by, sym, refl, ap, ◌∙◌, subst, ⊎_elim, arith}
 use Rattle.std.specs.List.{range_with_len, slice_get}
 use Rattle.std.proofs.lemmas.List.Sums.{sum_by-cons}
 use Rattle.std.proofs.lemmas.List.{length-map}
@@ -8,8 +8,8 @@ use Rattle.measure.specs.Laws.{RowEncoding}
 use Rattle.bottom_k.specs.Cells.{entries_of}
 use Rattle.tables.specs.declared.rows.HomeRow.{HomeRow}
 use Rattle.tables.specs.declared.rows.Cell.{Cell}
-use Rattle.tables.specs.Rows.{missing, empty_row, home_at, cell_at, cells_there}
-use Rattle.tables.specs.Walks.{forward, plain_sketch, read_entry, sketch, positions, Chain, Linked}
+use Rattle.tables.specs.Rows.{missing, home_at, cell_at, cells_there}
+use Rattle.tables.specs.Walks.{forward, plain_sketch, read_entry, sketch, positions, Chain}
 use Rattle.tables.specs.Tests.{LinksTest, SketchesSound, RisingBelow, entries_total, cells_taken}
 use Rattle.tables.specs.Changes.{Free}
 use Rattle.tables.proofs.Chains.{forward_some}

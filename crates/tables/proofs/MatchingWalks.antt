@@ -4,7 +4,7 @@ use mathlib.Core.List.{reverse-cons}
 use Rattle.std.specs.List.{AllByRecursion as All}
 use Rattle.tables.specs.declared.rows.HomeRow.{HomeRow}
 use Rattle.tables.specs.declared.rows.Cell.{Cell}
-use Rattle.tables.specs.Rows.{missing, home_at, cell_at}
+use Rattle.tables.specs.Rows.{missing, home_at}
 use Rattle.tables.specs.Walks.{Chain, Linked}
 use Rattle.tables.specs.Changes.{OwnedBy}
 use Rattle.tables.specs.MatchingWalks.{Walk, WalksMatch}

@@ -1,5 +1,5 @@
 -- The last entry of a sketch taken away.
-use Rattle.std.proofs.Common.{◌≡◌, ℕ, zero, suc, ◌+◌, ◌-◌, ◌<◌, ◌≤◌, ◌≢◌, List, [], ◌∷◌, ◌++◌, length, get_or, set, Some, None, sym, refl, ap, ◌∙◌, subst, ⊎_elim, arith}
+use Rattle.std.proofs.Common.{◌≡◌, ℕ, suc, ◌+◌, ◌-◌, ◌<◌, ◌≢◌, List, [], ◌∷◌, ◌++◌, set, Some, None, sym, refl, ap, ◌∙◌, subst, ⊎_elim, arith}
 use Rattle.std.proofs.lemmas.Bool.{cases_eq}
 use Rattle.tables.specs.declared.rows.HomeRow.{HomeRow}
 use Rattle.tables.specs.declared.rows.Cell.{Cell}
@@ -7,7 +7,7 @@ use Rattle.tables.specs.declared.rows.Entry.{Entry}
 use Rattle.tables.specs.Rows.{missing, home_at, cell_at}
 use Rattle.tables.specs.Walks.{noted, forward, plain_sketch, positions, Chain}
 use Rattle.tables.specs.Tests.{RisingBelow, cells_taken}
-use Rattle.tables.specs.Changes.{CanRemove, Removed, Free, with_after, with_owner}
+use Rattle.tables.specs.Changes.{CanRemove, Removed, with_after, with_owner}
 use Rattle.tables.proofs.Rises.{Rises, rises_all, rising_from, rises_weaker}
 use Rattle.tables.proofs.Splices.{apart, lower, cell_far, cell_in, cell_set_same, cell_set_other, chain_stays, before_last, relinked, last_cell}
 use Rattle.tables.proofs.Counts.{entries_set, taken_same, taken_less, taken_few}

@@ -1,8 +1,7 @@
 -- One row of the home table is written, with cells of that place or of none: the other sketches stay.
 use Rattle.std.proofs.Common.{◌≡◌, ℕ, ◌<◌, ◌≤◌, List, length, drop, set, Some, sym, refl, ap, ◌∙◌, subst, ⊎_elim, arith, get_or-set_other, get_or-set_same}
-use Rattle.std.specs.List.{slice_get}
 use Rattle.std.proofs.lemmas.Bool.{cases_eq, cases_lt}
-use Rattle.std.proofs.lemmas.List.{drop-set-lt, set_past}
+use Rattle.std.proofs.lemmas.List.{set_past}
 use Rattle.tables.specs.declared.rows.HomeRow.{HomeRow}
 use Rattle.tables.specs.declared.rows.Cell.{Cell}
 use Rattle.tables.specs.Rows.{missing, empty_row, home_at, cell_at}

@@ -1,8 +1,7 @@
 -- Positions that rise, as a walk meets them: each at least one more than the one before.
-use Rattle.std.proofs.Common.{◌≡◌, ℕ, ◌+◌, ◌<◌, ◌≤◌, List, [], ◌∷◌, ◌++◌, map, sym, refl, ap, ◌∙◌, subst, arith}
+use Rattle.std.proofs.Common.{ℕ, ◌+◌, ◌<◌, ◌≤◌, List, [], ◌∷◌, ◌++◌, arith}
 use Rattle.std.specs.List.{AllByRecursion as All}
 use Rattle.std.proofs.ByRecursion.{All-weaker}
-use Rattle.bottom_k.specs.Lists.{Rising}
 use Rattle.tables.specs.declared.rows.Entry.{Entry}
 use Rattle.tables.specs.Walks.{positions}
 use Rattle.tables.specs.Tests.{RisingBelow}

@@ -9,7 +9,7 @@ use Rattle.tables.specs.declared.rows.HomeRow.{HomeRow}
 use Rattle.tables.specs.declared.rows.Cell.{Cell}
 use Rattle.tables.specs.declared.rows.Entry.{Entry}
 use Rattle.tables.specs.Rows.{home_at}
-use Rattle.tables.specs.Walks.{forward, plain_sketch, read_entry, sketch, positions}
+use Rattle.tables.specs.Walks.{forward, plain_sketch, read_entry, positions}
 use Rattle.tables.specs.Tests.{RisingBelow, SketchesSound}
 use Rattle.tables.specs.Changes.{CanRemove, Removed, OnlySketch}
 use Rattle.tables.proofs.Counts.{entries_some}

@@ -6,7 +6,7 @@ use Rattle.fault.specs.declared.memory_test.MemoryTest.TheVariants.{Order, Links
 use Rattle.tables.specs.declared.rows.OrderRow.{OrderRow}
 use Rattle.tables.specs.declared.rows.HomeRow.{HomeRow}
 use Rattle.tables.specs.declared.rows.Cell.{Cell}
-use Rattle.tables.specs.Tests.{OrderTest, LinksTest, PositionsTest, CountsTest, PlacesTest, SketchesSound, Passes, Sound, FailsFirst}
+use Rattle.tables.specs.Tests.{SketchesSound, Passes, Sound, FailsFirst}
 
 module _ {R : Type 0} (n swept used : ℕ) (order : List OrderRow) (home : List HomeRow) (cells : List (Cell R)) (given : Option ℕ) where
   abbrev Pass : MemoryTest → Type 0

@@ -1,5 +1,5 @@
 -- One record more in the tables.
-use Rattle.std.proofs.Common.{◌≡◌, ℕ, ◌<◌, ◌≤◌, List, [], ◌∷◌, ◌++◌, get_or, set, vec_items, vec_len, vec_capacity, sym, ap, ◌∙◌, subst, arith}
+use Rattle.std.proofs.Common.{◌≡◌, ℕ, ◌<◌, ◌≤◌, List, [], ◌∷◌, ◌++◌, get_or, set, vec_items, vec_len, vec_capacity, ◌∙◌, subst, arith}
 use Rattle.town_record.specs.Entries.{SaysPlace, SaysArc}
 use Rattle.town_record.specs.FileForms.{FileForm}
 use Rattle.town_record.specs.Rules.{Faultless, Lowest}

@@ -1,10 +1,9 @@
 -- A span answers for the arcs that arrive at a place.
-use Rattle.std.proofs.Common.{◌≡◌, ℕ, ◌+◌, ◌-◌, ◌<◌, ◌≤◌, min, List, [], ◌∷◌, map, length, get_or, take, drop, Some, None, sym, refl, ap, ◌∙◌, subst, arith, length-drop, length-take}
+use Rattle.std.proofs.Common.{◌≡◌, ℕ, ◌+◌, ◌<◌, ◌≤◌, List, map, length, get_or, take, drop, Some, None, sym, ap, ◌∙◌, arith, length-drop, length-take}
 use lib.ListN.{length-map}
 use Rattle.std.specs.List.{slice_get}
 use Rattle.std.proofs.lemmas.List.{get_or-map, get_or-take, get_or-drop}
 use Rattle.std.proofs.lemmas.Option.{slice_get-get_or, slice_get_past}
-use Rattle.graph.specs.declared.arc.Arc.{Arc}
 use Rattle.town_record.specs.declared.arc_row.ArcRow.{ArcRow}
 use Rattle.town.specs.declared.tables.Span.{Span}
 use Rattle.town.specs.Index.{tos, first, count, Ends, Arrive, Begun, NotPast}

@@ -1,5 +1,5 @@
 -- The file of rows.
-use Rattle.std.proofs.Common.{◌≡◌, ℕ, ◌+◌, ◌*◌, List, map, length, vec_items, vec_len, sym, ap, ◌∙◌, arith, length-append}
+use Rattle.std.proofs.Common.{◌≡◌, ◌+◌, ◌*◌, map, length, vec_items, vec_len, sym, ap, ◌∙◌, arith, length-append}
 use lib.ListN.{length-map}
 use Rattle.std.specs.List.{AllByRecursion as All}
 use Rattle.town_record.specs.FileForms.{FileForm}

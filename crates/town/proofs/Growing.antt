@@ -1,5 +1,5 @@
 -- The tables still fit one another when a place or an arc is added.
-use Rattle.std.proofs.Common.{◌≡◌, ℕ, zero, suc, ◌+◌, ◌-◌, ◌<◌, ◌≤◌, cond, eqb, ◌⊎◌, List, [], ◌∷◌, ◌++◌, map, length, get_or, set, vec_items, vec_len, sym, refl, ap, ◌∙◌, subst, ⊎_elim, arith, length-set}
+use Rattle.std.proofs.Common.{◌≡◌, ℕ, zero, suc, ◌+◌, ◌<◌, ◌≤◌, List, [], ◌∷◌, ◌++◌, length, get_or, set, vec_items, vec_len, sym, refl, ap, ◌∙◌, subst, ⊎_elim, arith, length-set}
 use lib.ListN.{length-map}
 use Rattle.std.proofs.lemmas.List.{length_push, get_or_push, get_or_append_left, get_or-set_same, get_or-set_other, map_push}
 use Rattle.std.proofs.lemmas.Bool.{cases_lt, cond-true, cond-false, eq-eqb, ne_eqb}
@@ -7,9 +7,9 @@ use Rattle.town_record.specs.declared.arc_row.ArcRow.{ArcRow}
 use Rattle.town_record.specs.declared.name.Name.{Name}
 use Rattle.town.specs.declared.tables.Span.{Span}
 use Rattle.town.specs.declared.tables.Tables.{Tables}
-use Rattle.town.specs.Index.{froms, tos, no_arcs, first, count, longer, Below, Ends, Arrive, Begun, NotPast}
+use Rattle.town.specs.Index.{froms, tos, no_arcs, first, count, longer, Below}
 use Rattle.town.specs.Holds.{Sound, Empty, so_far}
-use Rattle.town.proofs.Spans.{Spanning, Longer, longer_spanning}
+use Rattle.town.proofs.Spans.{Spanning, longer_spanning}
 
 -- a place with no arcs changes no span
 span_of_more : (spans : List Span) (w : ℕ) → get_or (spans ++ no_arcs ∷ []) w no_arcs ≡ get_or spans w no_arcs

@@ -1,15 +1,13 @@
 -- The tables still hold what the records say when one more is read.
-use Rattle.std.proofs.Common.{◌≡◌, ℕ, ◌-◌, ◌<◌, ◌≤◌, Bool, true, false, cond, ltb, ◌⊎◌, List, [], ◌∷◌, ◌++◌, map, length, get_or, Some, None, vec_items, vec_len, filter, Option, sym, refl, ap, ◌∙◌, subst, ⊎_elim, append_assoc, append-nil, arith}
+use Rattle.std.proofs.Common.{◌≡◌, ℕ, ◌-◌, Bool, true, false, List, [], ◌∷◌, ◌++◌, map, length, get_or, Some, vec_items, vec_len, filter, sym, refl, ap, ◌∙◌, append_assoc, append-nil, arith}
 use lib.ListN.{length-map}
-use Rattle.std.specs.Option.{option_map}
 use Rattle.std.proofs.lemmas.List.Elements.{filter-append}
 use Rattle.std.proofs.lemmas.List.{map_push, nil_from_length}
 use Rattle.std.proofs.lemmas.Bool.{cond-true, cond-false}
 use Rattle.town_record.specs.Entries.{SaysPlace, SaysArc}
 use Rattle.town_record.specs.FileForms.{FileForm}
-use Rattle.town_record.specs.Parts.{is_place, is_arc, rank_of, name_of, from_of, to_of, length_bytes, arc_of, place_record, arc_record}
+use Rattle.town_record.specs.Parts.{is_place, is_arc, rank_of, name_of, to_of, arc_of, place_record, arc_record}
 use Rattle.town_record.specs.declared.arc_row.ArcRow.{ArcRow}
-use Rattle.town_record.specs.declared.before.Before.{Before}
 use Rattle.town_record.specs.declared.name.Name.{Name}
 use Rattle.town_record.proofs.Tells.{not_place, not_arc}
 use Rattle.town.specs.declared.tables.Tables.{Tables}

@@ -1,8 +1,7 @@
 -- What a record without fault shows beside what stands before it.
-use Rattle.std.proofs.Common.{◌≡◌, ℕ, ◌<◌, ◌≤◌, Bool, true, false, not, ◌&&◌, ◌||◌, eqb, ltb, leb, List, Some, None, Option, sym, refl, ap, ◌∙◌, subst, arith}
+use Rattle.std.proofs.Common.{◌≡◌, ℕ, ◌<◌, ◌≤◌, Bool, true, false, ◌&&◌, ◌||◌, ltb, leb, List, Some, None, Option, refl, ap, arith}
 use Rattle.std.specs.Option.{option_map}
 use Rattle.std.proofs.lemmas.Bool.{true≢false, false≢true, leb-false, ltb-false}
-use Rattle.town_record.specs.Entries.{SaysPlace, SaysArc}
 use Rattle.town_record.specs.FileForms.{FileForm}
 use Rattle.town_record.specs.Parts.{is_place, is_arc, from_of, to_of, length_bytes, arc_of}
 use Rattle.town_record.specs.Rules.{Faultless}

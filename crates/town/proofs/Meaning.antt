@@ -1,12 +1,12 @@
 -- What an accepted file means, once its records are in the tables.
-use Rattle.std.proofs.Common.{◌≡◌, ℕ, zero, suc, ◌+◌, ◌*◌, ◌<◌, ◌≤◌, Bool, true, false, cond, eqb, ◌⊎◌, List, [], ◌∷◌, ◌++◌, map, length, get_or, take, drop, Some, vec_items, vec_len, filter, sym, refl, ap, ◌∙◌, subst, inl, inr, ⊎_elim, append_assoc, append-nil, arith, take-add}
+use Rattle.std.proofs.Common.{◌≡◌, ℕ, zero, suc, ◌+◌, ◌*◌, ◌≤◌, Bool, true, false, cond, eqb, List, [], ◌∷◌, ◌++◌, map, length, take, Some, vec_items, vec_len, filter, sym, refl, ap, ◌∙◌, ⊎_elim, append_assoc, append-nil, arith, take-add}
 use lib.ListN.{length-map}
 use Rattle.std.specs.Option.{option_map}
 use Rattle.std.specs.List.{concat}
 use Rattle.std.proofs.lemmas.List.{take_all}
 use Rattle.std.proofs.lemmas.Bool.{cases_Bool, cond-true, leb-false}
 use Rattle.town_record.specs.FileForms.{FileForm}
-use Rattle.town_record.specs.Parts.{is_place, is_arc, rank_of, from_of, to_of, arc_of}
+use Rattle.town_record.specs.Parts.{is_place, rank_of, from_of, to_of, arc_of}
 use Rattle.town_record.specs.declared.arc_row.ArcRow.{ArcRow}
 use Rattle.town_record.specs.declared.before.Limits.{Limits}
 use Rattle.town_record.specs.declared.rule.Rule.TheVariants.{BadByte, BadValue}

@@ -1,15 +1,14 @@
 -- Going through the records of a file.
-use Rattle.std.proofs.Common.{◌≡◌, ℕ, suc, ◌+◌, ◌-◌, ◌*◌, ◌/◌, ◌%◌, ◌<◌, ◌≤◌, true, false, eqb, ◌⊎◌, List, [], ◌∷◌, ◌++◌, length, take, drop, sym, refl, ap, ◌∙◌, subst, inl, inr, ⊎_elim, add-one, arith, length-drop, length-take}
+use Rattle.std.proofs.Common.{◌≡◌, ℕ, ◌+◌, ◌-◌, ◌*◌, ◌/◌, ◌%◌, ◌<◌, ◌≤◌, eqb, List, [], ◌∷◌, ◌++◌, length, take, drop, sym, ap, ◌∙◌, subst, inr, ⊎_elim, add-one, arith, length-drop, length-take}
 use Rattle.std.proofs.lemmas.Bool.{cases_lt, ne_eqb, not_from_false}
 use Rattle.fault.specs.declared.file.FileFault.{FileFault}
 use Rattle.town_record.specs.FileForms.{FileForm}
-use Rattle.town_record.specs.Rules.{Faultless, Lowest, breaks, fault, rule_number}
-use Rattle.town_record.specs.declared.before.Before.{Before}
+use Rattle.town_record.specs.Rules.{Faultless, Lowest, fault, rule_number}
 use Rattle.town_record.specs.declared.before.Limits.{Limits}
 use Rattle.town_record.specs.declared.rule.Rule.{Rule}
 use Rattle.town_record.specs.declared.rule.Rule.TheVariants.{PartialRecord, BadByte, BadValue, OutOfOrder, OutOfRoom}
 use Rattle.town.specs.declared.tables.Tables.{Tables}
-use Rattle.town.specs.Files.{record_at, record_count, records, seen, CleanTo, FirstFault, Accepted, Rejected}
+use Rattle.town.specs.Files.{record_at, record_count, records, seen, CleanTo, Accepted, Rejected}
 use Rattle.town.specs.Holds.{Holds}
 
 -- the part of the file that the code reads as record i

@@ -1,7 +1,6 @@
 -- The spans of the places as arcs are added, over plain functions: where the arcs of a place begin, how many they are,
 -- and where each arc arrives.
 use Rattle.std.proofs.Common.{◌≡◌, ℕ, ◌+◌, ◌-◌, ◌<◌, ◌≤◌, ◌⊎◌, sym, ap, ◌∙◌, subst, ⊎_elim, arith}
-use native.Mathlib.Decide.{ℕ_discrete}
 use Rattle.std.proofs.lemmas.Bool.{cases_lt, cases_eq}
 
 -- the n arcs of a table stand in the spans of the places where they arrive, and these never fall

@@ -1,5 +1,5 @@
 -- What the tables hold of the records read.
-use Rattle.std.specs.Prelude.{◌≡◌, ℕ, ◌-◌, ◌<◌, ◌≤◌, List, [], ◌∷◌, ◌++◌, map, length, Some, vec_items, vec_len, vec_capacity, filter, slice_index}
+use Rattle.std.specs.Prelude.{◌≡◌, ℕ, ◌-◌, ◌<◌, ◌≤◌, List, [], ◌∷◌, ◌++◌, map, Some, vec_items, vec_len, vec_capacity, filter, slice_index}
 use Rattle.town_record.specs.FileForms.{FileForm}
 use Rattle.town_record.specs.Parts.{is_place, is_arc, rank_of, name_of, arc_of, place_record, arc_record}
 use Rattle.town_record.specs.declared.before.Before.{Before}

@@ -1,6 +1,6 @@
 -- What rows mean: the map, and the file written for them.
-use Rattle.std.specs.Prelude.{◌≡◌, ℕ, ◌<◌, ◌≤◌, List, [], ◌∷◌, ◌++◌, map, length, vec_items, vec_len, filter, nat_eq, refl}
-use Rattle.std.proofs.Common.{sym, ap, subst, ◌∙◌, arith}
+use Rattle.std.specs.Prelude.{ℕ, ◌<◌, List, [], ◌∷◌, ◌++◌, map, length, vec_items, vec_len, nat_eq}
+use Rattle.std.proofs.Common.{ap, arith}
 use Rattle.std.specs.List.{concat, AllByRecursion as All}
 use Rattle.std.proofs.ByRecursion.{all_kept_by}
 use Rattle.graph.specs.Graphs.{Graph}

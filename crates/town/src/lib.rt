@@ -1,4 +1,5 @@
 //! Town files: reading one into rows, a map with ranks and names, and writing it back.
+#![tactic(auto)]
 
 mod reading;
 pub mod rejection;

@@ -1,11 +1,11 @@
 -- What a record without fault shows of its bytes and values.
-use Rattle.std.proofs.Common.{◌≡◌, ℕ, ◌-◌, Bool, true, false, not, ◌&&◌, ◌||◌, eqb, leb, List, length, is_some, sym, refl, ap, ◌∙◌}
+use Rattle.std.proofs.Common.{◌≡◌, ℕ, ◌-◌, Bool, true, false, not, ◌&&◌, ◌||◌, eqb, leb, List, length, is_some, refl, ap}
 use Rattle.std.specs.List.{between}
 use Rattle.std.proofs.lemmas.Bool.{true≢false, false≢true, not-false, eqb-true}
 use Rattle.town_record.specs.Bytes.{byte, all_zero}
 use Rattle.town_record.specs.FileForms.{FileForm}
 use Rattle.town_record.specs.Parts.{is_place, is_arc, rank_of, name_of, from_of, to_of, length_bytes}
-use Rattle.town_record.specs.Rules.{good_name, bad_byte, bad_value, breaks, Faultless}
+use Rattle.town_record.specs.Rules.{good_name, bad_byte, bad_value, Faultless}
 use Rattle.town_record.specs.declared.before.Before.{Before}
 use Rattle.town_record.specs.declared.before.Limits.{Limits}
 use Rattle.town_record.specs.declared.rule.Rule.TheVariants.{PartialRecord}

@@ -1,5 +1,5 @@
 -- Bytes, and the numbers that stand in them big-endian: the most significant byte first.
-use Rattle.std.specs.Prelude.{ℕ, ◌+◌, ◌*◌, ◌/◌, ◌%◌, ◌<◌, Bool, true, ◌&&◌, List, [], ◌∷◌, ◌==◌, slice_index}
+use Rattle.std.specs.Prelude.{ℕ, ◌+◌, ◌*◌, ◌/◌, ◌%◌, Bool, true, ◌&&◌, List, [], ◌∷◌, ◌==◌, slice_index}
 
 -- the byte of a number, counted from 0
 abbrev pub byte : List ℕ → ℕ → ℕ

@@ -1,5 +1,5 @@
 -- The forms of the three measures in a file: seconds use 4 bytes, rise 2, fares 8.
-use Rattle.std.specs.Prelude.{◌≡◌, ℕ, ◌+◌, ◌*◌, ◌/◌, ◌%◌, ◌<◌, ◌≤◌, min, Bool, true, false, cond, List, [], ◌∷◌, ◌++◌, length, Some, None, Option, nat_le, refl}
+use Rattle.std.specs.Prelude.{◌≡◌, ℕ, ◌<◌, cond, List, ◌++◌, length, Some, None, Option, nat_le, refl}
 use Rattle.std.proofs.Common.{sym, ap, ◌∙◌, ⊎_elim, arith}
 use Rattle.std.specs.List.{AllByRecursion as All}
 use Rattle.std.proofs.lemmas.Bool.{cases_lt, cond-true, cond-false, le-leb, lt-leb}
@@ -9,7 +9,7 @@ use Rattle.measure.specs.FaresLaws.{fares, same_fares}
 use Rattle.measure.specs.declared.seconds.Seconds.{Seconds}
 use Rattle.measure.specs.declared.rise.Rise.{Rise}
 use Rattle.measure.specs.declared.fares.Fares.{Fares}
-use Rattle.town_record.specs.Bytes.{byte, two, four, two_bytes, four_bytes}
+use Rattle.town_record.specs.Bytes.{two, four, two_bytes, four_bytes}
 use Rattle.town_record.specs.ByteLaws.{two_of_bytes, four_of_bytes, two_bytes_back, four_bytes_back, eight_bytes_back, two_below, four_below}
 use Rattle.town_record.specs.FileForms.{FileForm}
 

@@ -1,5 +1,5 @@
 -- The parts of a record, 16 bytes of a town file.
-use Rattle.std.specs.Prelude.{ℕ, ◌-◌, Bool, List, [], ◌∷◌, ◌++◌, replicate, Option, ◌==◌}
+use Rattle.std.specs.Prelude.{ℕ, ◌-◌, Bool, List, ◌∷◌, ◌++◌, replicate, Option, ◌==◌}
 use Rattle.std.specs.Option.{option_map}
 use Rattle.std.specs.List.{between}
 use Rattle.town_record.specs.Bytes.{byte, two, four, two_bytes, four_bytes}

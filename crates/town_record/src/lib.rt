@@ -1,4 +1,5 @@
 //! The records of a town file, one at a time: what stands in them, the rules they keep, and how they are written.
+#![tactic(auto)]
 
 pub mod arc_row;
 pub mod before;

@@ -1,4 +1,5 @@
 //! Tests of measures and town files.
+#![tactic(auto)]
 
 #[cfg(test)]
 mod files;

@@ -1,4 +1,4 @@
-use Rattle.std.proofs.Common.{◌≡◌, List, sum_by, ap, ◌∙◌, arith, rules}
+use Rattle.std.proofs.Common.{List, sum_by, ap, ◌∙◌, arith, rules}
 use Rattle.std.proofs.lemmas.List.Sums.{sum_by_more}
 use Rattle.tables.specs.declared.rows.HomeRow.{HomeRow}
 use Rattle.tables.proofs.Chains.{take_min}

@@ -1,5 +1,5 @@
 -- The line has the next number.
-use Rattle.std.proofs.Common.{◌≡◌, ◌+◌}
+use Rattle.std.proofs.Common.{◌≡◌}
 use Rattle.line_source.proofs.LineSource.advance.Given as goal
 
 abbrev pub invariant-loop : goal.invariant-loop

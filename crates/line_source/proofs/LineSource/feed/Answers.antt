@@ -1,5 +1,5 @@
 -- The part is fed byte by byte.
-use Rattle.std.proofs.Common.{◌≡◌, ℕ, ◌≤◌, List, ◌++◌, length, drop, refl, ap, ◌∙◌, arith}
+use Rattle.std.proofs.Common.{ℕ, ◌≤◌, List, ◌++◌, length, ap, ◌∙◌, arith}
 use Rattle.std.proofs.lemmas.List.{drop_all, length-take-le}
 use Rattle.line_source.proofs.Splitting.{fed_byte, fed_newline}
 use Rattle.line_source.proofs.LineSource.feed.Goals as goal

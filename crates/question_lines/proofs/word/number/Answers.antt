@@ -1,5 +1,5 @@
 -- Each digit that extends the number is its next one.
-use Rattle.std.proofs.Common.{◌≡◌, ℕ, length, get_or, subst, arith}
+use Rattle.std.proofs.Common.{◌≡◌, ℕ, length, subst, arith}
 use Rattle.question_lines.proofs.Numbers.{first_digit, next_digit}
 use Rattle.question_lines.proofs.word.number.Goals as goal
 use Rattle.question_lines.specs.Words.{Digits}

@@ -1,4 +1,4 @@
-use Rattle.std.proofs.Common.{◌≡◌, drop, set, sym, refl, ap, ◌∙◌}
+use Rattle.std.proofs.Common.{◌≡◌, drop, set, sym, ap, ◌∙◌}
 use Rattle.std.proofs.lemmas.List.{drop-set-lt}
 use Rattle.tables.specs.Rows.{missing}
 use Rattle.tables.specs.Changes.{with_after}

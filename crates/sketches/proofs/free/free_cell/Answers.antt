@@ -1,5 +1,4 @@
-use Rattle.std.proofs.Common.{◌≡◌, ◌<◌, ◌≤◌, length, ap, ◌∙◌, ⊎_elim, arith, below_more}
-use Rattle.std.proofs.lemmas.Bool.{cases_lt}
+use Rattle.std.proofs.Common.{◌<◌, ◌≤◌, length, ap, ◌∙◌, arith, below_more}
 use Rattle.tables.specs.Rows.{missing}
 use Rattle.tables.specs.Changes.{Free}
 use Rattle.tables.proofs.Splices.{cell_read, cell_far, cell_in, cell_is}

@@ -1,4 +1,4 @@
-use Rattle.std.proofs.Common.{◌≡◌, vec_len, vec_capacity, refl, ap, subst, arith}
+use Rattle.std.proofs.Common.{vec_len, vec_capacity, refl, ap, subst, arith}
 use Rattle.town_record.specs.Entries.{Says, SaysPlace, SaysArc}
 use Rattle.town.proofs.Adding.{refused, place_few, place_room, place_added, arc_few, arc_room, arc_added}
 use Rattle.town.proofs.Growing.{one_longer}

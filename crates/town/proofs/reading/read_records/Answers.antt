@@ -1,7 +1,7 @@
-use Rattle.std.proofs.Common.{◌≡◌, ◌+◌, ◌-◌, ◌*◌, ◌<◌, eqb, [], ◌∷◌, ◌++◌, length, take, drop, sym, refl, subst, arith}
+use Rattle.std.proofs.Common.{◌+◌, ◌-◌, ◌*◌, ◌<◌, [], ◌∷◌, ◌++◌, length, take, drop, sym, refl, subst, arith}
 use Rattle.std.proofs.lemmas.Bool.{eqb-false}
 use Rattle.town_record.specs.Rules.{Faultless, Lowest}
-use Rattle.town.specs.Files.{record_at, record_count, records, seen}
+use Rattle.town.specs.Files.{records, seen}
 use Rattle.town.specs.Holds.{Holds}
 use Rattle.town.proofs.Passing.{read_as, found, short_rest, clean_more, accepted, holds_more}
 use Rattle.town.proofs.reading.read_records.Goals as goal

@@ -1,4 +1,4 @@
-use Rattle.std.proofs.Common.{◌≡◌, ◌-◌, ◌∷◌, ◌++◌, length, replicate, sym, ◌∙◌, rules}
+use Rattle.std.proofs.Common.{◌≡◌, ◌-◌, ◌∷◌, ◌++◌, replicate, sym, ◌∙◌, rules}
 use Rattle.town_record.proofs.Spelled.{elements, drop_elements}
 use Rattle.town_record.proofs.fill.arc_record.Goals as goal
 

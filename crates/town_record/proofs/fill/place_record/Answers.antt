@@ -1,4 +1,4 @@
-use Rattle.std.proofs.Common.{◌≡◌, ◌∷◌, ◌++◌, length, sym, ◌∙◌, rules}
+use Rattle.std.proofs.Common.{◌≡◌, ◌∷◌, ◌++◌, sym, ◌∙◌, rules}
 use Rattle.town_record.proofs.Spelled.{elements, drop_elements}
 use Rattle.town_record.proofs.fill.place_record.Goals as goal
 

@@ -1,4 +1,4 @@
-use Rattle.std.proofs.Common.{◌≡◌, sym, arith}
+use Rattle.std.proofs.Common.{sym, arith}
 use Rattle.tables.proofs.Chains.{forward_none, forward_next}
 use Rattle.sketches.proofs.reader.SketchReader.next.Goals as goal
 

@@ -1,4 +1,4 @@
-use Rattle.std.proofs.Common.{◌≡◌, vec_items, sym, refl, ◌∙◌, arith}
+use Rattle.std.proofs.Common.{vec_items, sym, refl, ◌∙◌, arith}
 use Rattle.std.proofs.lemmas.List.{nil_from_length}
 use Rattle.town.proofs.room.Room.open.Goals as goal
 

@@ -1,4 +1,4 @@
-use Rattle.std.proofs.Common.{◌≡◌, sym, arith}
+use Rattle.std.proofs.Common.{arith}
 use Rattle.town.proofs.Filing.{file_long}
 use Rattle.town.proofs.rows.Rows.file_length.Goals as goal
 

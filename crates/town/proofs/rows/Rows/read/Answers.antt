@@ -1,4 +1,4 @@
-use Rattle.std.proofs.Common.{◌≡◌, ap, subst, arith}
+use Rattle.std.proofs.Common.{subst, arith}
 use Rattle.town.specs.Files.{Accepted}
 use Rattle.town.proofs.Meaning.{has_place, reads}
 use Rattle.town.proofs.rows.Rows.read.Goals as goal

@@ -1,5 +1,5 @@
-use Rattle.std.proofs.Common.{◌≡◌, ◌<◌, ◌++◌, length, drop, sym, ap, ◌∙◌, subst, arith}
-use Rattle.town.specs.RowsGraph.{rows_file, rows_records}
+use Rattle.std.proofs.Common.{◌++◌, length, drop, sym, ap, ◌∙◌, subst, arith}
+use Rattle.town.specs.RowsGraph.{rows_records}
 use Rattle.town.specs.Writes.{Wrote}
 use Rattle.town.proofs.Filing.{all_whole, file_long, records_counted}
 use Rattle.town.proofs.Writing.{wrote_all}

@@ -1,4 +1,4 @@
-use Rattle.std.proofs.Common.{◌≡◌, ◌+◌, ◌*◌, ◌<◌, ◌≤◌, length, vec_items, vec_len, sym, ap, ◌∙◌, subst, arith, rules}
+use Rattle.std.proofs.Common.{◌≡◌, ◌+◌, ◌*◌, ◌<◌, ◌≤◌, length, vec_items, vec_len, sym, ◌∙◌, subst, arith, rules}
 use Rattle.town.specs.Holds.{place_records}
 use Rattle.town.specs.RowsGraph.{rows_records}
 use Rattle.town.specs.Writes.{Wrote}

@@ -1,4 +1,4 @@
-use Rattle.std.proofs.Common.{◌≡◌, ◌+◌, ◌*◌, ◌<◌, ◌≤◌, [], map, length, get_or, vec_items, vec_len, sym, refl, ap, ◌∙◌, arith, rules}
+use Rattle.std.proofs.Common.{◌≡◌, ◌+◌, ◌*◌, ◌<◌, ◌≤◌, map, length, get_or, vec_items, vec_len, sym, ap, ◌∙◌, arith, rules}
 use Rattle.std.proofs.lemmas.List.{get_or_read_under}
 use Rattle.town_record.specs.Parts.{place_record, arc_record}
 use Rattle.town.specs.RowsGraph.{rows_records}

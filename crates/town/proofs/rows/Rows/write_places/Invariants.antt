@@ -1,4 +1,3 @@
-use Rattle.std.proofs.Common.{◌≡◌, length}
 use Rattle.town.specs.RowsGraph.{rows_records}
 use Rattle.town.specs.Writes.{Wrote}
 use Rattle.town.proofs.rows.Rows.write_places.Given as goal

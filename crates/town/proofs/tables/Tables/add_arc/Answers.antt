@@ -1,4 +1,4 @@
-use Rattle.std.proofs.Common.{◌≡◌, ◌+◌, ◌<◌, get_or, vec_items, vec_len, ap, arith, rules}
+use Rattle.std.proofs.Common.{◌+◌, ◌<◌, vec_items, vec_len, ap, arith, rules}
 use Rattle.std.proofs.lemmas.List.{get_or_read_under}
 use Rattle.town.specs.Index.{no_arcs}
 use Rattle.town.proofs.tables.Tables.add_arc.Goals as goal

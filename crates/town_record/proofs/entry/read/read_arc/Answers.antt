@@ -1,11 +1,9 @@
-use Rattle.std.proofs.Common.{◌≡◌, ℕ, ◌-◌, ◌<◌, true, List, get_or, drop, is_some, Some, None, sym, ap, ◌∙◌, arith}
+use Rattle.std.proofs.Common.{◌≡◌, ℕ, ◌-◌, ◌<◌, List, get_or, drop, is_some, Some, sym, ap, ◌∙◌, arith}
 use Rattle.std.specs.Option.{option_map}
-use Rattle.std.specs.List.{between}
 use Rattle.std.proofs.lemmas.Bool.{eqb-true, false≢true}
 use Rattle.town_record.specs.Bytes.{two_bytes}
 use Rattle.town_record.specs.FileForms.{FileForm}
 use Rattle.town_record.specs.Parts.{from_of, to_of, length_bytes, arc_of}
-use Rattle.town_record.specs.declared.arc_row.ArcRow.{ArcRow}
 use Rattle.town_record.proofs.Spelled.{used_bytes, from_bytes, to_bytes, length_exact}
 use Rattle.town_record.proofs.Tells.{arc_bytes, arc_values}
 use Rattle.town_record.proofs.Whole.{whole_arc}

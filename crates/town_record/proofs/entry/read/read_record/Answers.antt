@@ -1,4 +1,4 @@
-use Rattle.std.proofs.Common.{◌≡◌, arith}
+use Rattle.std.proofs.Common.{arith}
 use Rattle.std.proofs.lemmas.Bool.{eq-eqb, ne_eqb}
 use Rattle.town_record.specs.declared.rule.Rule.TheVariants.{BadByte, BadValue}
 use Rattle.town_record.proofs.Tells.{either_letter, whole_record}

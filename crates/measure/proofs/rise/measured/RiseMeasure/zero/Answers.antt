@@ -1,4 +1,3 @@
-use Rattle.std.proofs.Common.{arith}
 use Rattle.measure.specs.RiseLaws.{same_rise}
 use Rattle.measure.proofs.rise.measured.RiseMeasure.zero.Goals as goal
 

@@ -1,4 +1,3 @@
-use Rattle.std.proofs.Common.{arith}
 use Rattle.measure.specs.SecondsLaws.{same_seconds}
 use Rattle.measure.proofs.seconds.measured.SecondsMeasure.zero.Goals as goal
 

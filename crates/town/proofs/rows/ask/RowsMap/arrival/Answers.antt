@@ -1,4 +1,4 @@
-use Rattle.std.proofs.Common.{◌≡◌, ◌+◌, ◌<◌, ◌≤◌, get_or, vec_items, ap, ◌∙◌, subst, arith}
+use Rattle.std.proofs.Common.{◌≡◌, ◌+◌, ◌<◌, get_or, vec_items, ap, subst, arith}
 use Rattle.town.specs.Index.{first, count}
 use Rattle.town.proofs.Asking.{none_past, span_fits, arrival_found}
 use Rattle.town.proofs.rows.ask.RowsMap.arrival.Goals as goal
