@@ -1,12 +1,12 @@
 //! Lengths that may be missing.
 ghost use Rattle.std.specs.Prelude.{◌≡◌, Some};
-ghost use Rattle.graph.specs.LeastLengths.{shorter as shorter-of, in_turn};
+ghost use Rattle.graph.specs.LeastLengths.{shorter as shorter_of, in_turn};
 
 use measure::Measure;
 
 /// The shorter of a length that may be missing and another.
 pub(crate) fn shorter<L: Measure>(old: Option<L>, new: L) -> Option<L>
-    ensures { result ≡ shorter-of L.Measure.laws old (Some new) }
+    ensures { result ≡ shorter_of L.Measure.laws old (Some new) }
 {
     match old {
         Some(known) if known.at_most(new) => Some(known),

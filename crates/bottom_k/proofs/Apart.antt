@@ -2,7 +2,7 @@
 use Rattle.std.proofs.Common.{◌≡◌, ℕ, suc, ◌<◌, ◌≤◌, Bool, true, false, cond, not, T, eqb, List, [], ◌∷◌, length, filter, sym, ap, ◌∙◌, subst, inl, inr, ⊎_elim, arith, eqb→eq, T_not}
 use native.Mathlib.Decide.{ℕ_discrete}
 use lib.Dec.{eqb_refl, not_T}
-use Rattle.std.specs.List.{AllByRecursion as All}
+use Rattle.std.specs.List.{AllByRecursion}
 use Rattle.graph.specs.Members.{In}
 use Rattle.graph.proofs.Lists.{all_in, all_from_in}
 use Rattle.bottom_k.specs.Lists.{Apart, Rising}
@@ -69,14 +69,14 @@ without_shorter p (x ∷ xs) h = go (ℕ_discrete x p) (without_shorter p xs h.1
     go (no n) k = put (not (eqb x p)) (differs x p n) k
 
 -- a list without repeats that stands in another is no longer than that one
-pub apart_fits : (qs xs : List ℕ) → Apart qs → All (λ q. In q xs) qs → length qs ≤ length xs
+pub apart_fits : (qs xs : List ℕ) → Apart qs → AllByRecursion (λ q. In q xs) qs → length qs ≤ length xs
 apart_fits [] [] h k = omega arith
 apart_fits (q ∷ qs) [] h k = absurd k.0
 apart_fits [] (x ∷ xs) h k = omega arith
 apart_fits (q ∷ qs) (x ∷ xs) h k =
     let all = q ∷ qs in
     let rest = without x all in
-    let stand : All (λ r. In r xs) rest =
+    let stand : AllByRecursion (λ r. In r xs) rest =
     all_from_in (λ r. In r xs) rest (λ r i.
     let o = without_in r x all i in
     ⊎_elim (λ e. absurd (o.1 e)) (λ j. j) (all_in (λ z. In z (x ∷ xs)) all k r o.0)) in

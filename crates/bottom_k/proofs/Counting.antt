@@ -2,7 +2,7 @@
 use Rattle.std.proofs.Common.{◌≡◌, ℕ, zero, suc, ◌<◌, ◌≤◌, min, not, T, eqb, ltb, List, [], ◌∷◌, map, length, sym, subst, arith, ltb→lt}
 use native.Mathlib.Decide.{dec_lt}
 use lib.ListN.{length-map}
-use Rattle.std.specs.List.{AllByRecursion as All}
+use Rattle.std.specs.List.{AllByRecursion}
 use Rattle.measure.specs.Laws.{OrderedMonoid}
 use Rattle.graph.specs.Members.{In}
 use Rattle.graph.specs.Ways.{Least}
@@ -83,14 +83,14 @@ module _ {L : Type 0} (s : Setting L) (v : ℕ) where
 
       go : Dec (In p qs) → Known → min s.k (length qs) ≤ length (entries_within m t es)
       go (no out) known =
-          let lower : All (λ q. (q < p) × Near s v q t) qs = all_from_in (λ q. (q < p) × Near s v q t) qs (λ q i.
+          let lower : AllByRecursion (λ q. (q < p) × Near s v q t) qs = all_from_in (λ q. (q < p) × Near s v q t) qs (λ q i.
           let o = all_in (λ r. (r < suc p) × Near s v r t) qs near.1 q i in
           let d : ¬ (q ≡ p) = λ e. out (subst (λ z. In z qs) e i) in
           (omega (arith, o.0), o.1)) in
           omega (arith, known qs (near.0, lower), fewer_before)
       go (yes i) known =
           let rest = without p qs in
-          let lower : All (λ q. (q < p) × Near s v q t) rest = all_from_in (λ q. (q < p) × Near s v q t) rest (λ q j.
+          let lower : AllByRecursion (λ q. (q < p) × Near s v q t) rest = all_from_in (λ q. (q < p) × Near s v q t) rest (λ q j.
           let w = without_in q p qs j in
           let o = all_in (λ r. (r < suc p) × Near s v r t) qs near.1 q w.0 in
           let d = w.1 in

@@ -1,7 +1,7 @@
 -- Sketches due: cut at a position, longer by one, without the last; and that there is only one.
 use Rattle.std.proofs.Common.{◌≡◌, ℕ, suc, ◌<◌, ◌≤◌, Bool, true, false, cond, T, ltb, List, [], ◌∷◌, ◌++◌, map, filter, sym, refl, ap, ◌∙◌, subst, inl, ⊎_elim, append-nil, arith, ltb→lt, lt→ltb}
 use native.Mathlib.Decide.{ℕ_discrete}
-use Rattle.std.specs.List.{AllByRecursion as All}
+use Rattle.std.specs.List.{AllByRecursion}
 use Rattle.std.proofs.lemmas.List.Elements.{filter-append}
 use Rattle.graph.specs.Members.{In}
 use Rattle.graph.specs.Ways.{Least}
@@ -108,7 +108,7 @@ module _ {L : Type 0} (s : Setting L) (v : ℕ) where
       last : Entry L
       last = record { position = p; length = d }
 
-      low : All (λ e. T (ltb e.position p)) es
+      low : AllByRecursion (λ e. T (ltb e.position p)) es
       low = all_from_in (λ e. T (ltb e.position p)) es (λ e i. lt→ltb _ _ (all_in (λ x. x.position < p) es (ordered_front Earlier es last (by_position (es ++ last ∷ []) due.rising)) e i))
 
       dropped : (b : Bool) → ¬ T b → cond b (last ∷ []) [] ≡ []

@@ -1,7 +1,7 @@
 -- The first k of a property: how to build the list, and that there is only one.
 use Rattle.std.proofs.Common.{◌≡◌, ℕ, zero, suc, ◌<◌, ◌≤◌, ◌⊎◌, List, [], ◌∷◌, ◌++◌, length, take, refl, ap, inl, inr, ⊎_elim, arith, length-append, length-take}
 use native.Mathlib.Decide.{ℕ_discrete}
-use Rattle.std.specs.List.{AllByRecursion as All}
+use Rattle.std.specs.List.{AllByRecursion}
 use Rattle.std.proofs.ByRecursion.{All-take, All-push}
 use Rattle.graph.specs.Members.{In}
 use Rattle.graph.proofs.Lists.{all_in, all_from_in}
@@ -15,8 +15,8 @@ pub first_none : (P : ℕ → Type 0) → FirstK 0 P []
 first_none P = record { rising = tt; right = tt; few = omega arith; first = λ q h. inr (refl, tt) }
 
 -- one more: the next that has P
-pub first_more : (P : ℕ → Type 0) (k : ℕ) (xs : List ℕ) (q : ℕ) → FirstK k P xs → length xs ≡ k → P q → All (λ x. x < q) xs →
-    ((r : ℕ) → P r → All (λ x. x < r) xs → q ≤ r) → FirstK (suc k) P (xs ++ q ∷ [])
+pub first_more : (P : ℕ → Type 0) (k : ℕ) (xs : List ℕ) (q : ℕ) → FirstK k P xs → length xs ≡ k → P q → AllByRecursion (λ x. x < q) xs →
+    ((r : ℕ) → P r → AllByRecursion (λ x. x < r) xs → q ≤ r) → FirstK (suc k) P (xs ++ q ∷ [])
 first_more P k xs q firsts full holds above next = record {
   rising = ordered_push (λ x y. x < y) xs q firsts.rising above;
   right = All-push P xs q firsts.right holds;
@@ -24,12 +24,12 @@ first_more P k xs q firsts full holds above next = record {
   first = λ r h. ⊎_elim (λ i. inl (in_left r xs (q ∷ []) i)) (λ o. go r (next r h o.1) o.1 (ℕ_discrete r q)) (firsts.first r h);
 }
   where
-    go : (r : ℕ) → q ≤ r → All (λ x. x < r) xs → Dec (r ≡ q) → In r (xs ++ q ∷ []) ⊎ ((length (xs ++ q ∷ []) ≡ suc k) × All (λ x. x < r) (xs ++ q ∷ []))
+    go : (r : ℕ) → q ≤ r → AllByRecursion (λ x. x < r) xs → Dec (r ≡ q) → In r (xs ++ q ∷ []) ⊎ ((length (xs ++ q ∷ []) ≡ suc k) × AllByRecursion (λ x. x < r) (xs ++ q ∷ []))
     go r low all (yes same) = inl (in_right r xs (q ∷ []) (inl same))
     go r low all (no other) = inr (omega (arith, length-append xs (q ∷ [])), All-push (λ x. x < r) xs q all (omega arith))
 
 -- where no more have P, these are the first of any number
-pub first_all : (P : ℕ → Type 0) (k n : ℕ) (xs : List ℕ) → FirstK k P xs → ((r : ℕ) → P r → ¬ All (λ x. x < r) xs) → length xs ≤ n → FirstK n P xs
+pub first_all : (P : ℕ → Type 0) (k n : ℕ) (xs : List ℕ) → FirstK k P xs → ((r : ℕ) → P r → ¬ AllByRecursion (λ x. x < r) xs) → length xs ≤ n → FirstK n P xs
 first_all P k n xs firsts none h = record {
   rising = firsts.rising;
   right = firsts.right;
@@ -47,7 +47,7 @@ first_same P Q k xs to back firsts = record {
 }
 
 -- the first k of a list that rises
-take_or_above : (k : ℕ) (xs : List ℕ) → Rising xs → (q : ℕ) → In q xs → In q (take k xs) ⊎ ((length (take k xs) ≡ k) × All (λ x. x < q) (take k xs))
+take_or_above : (k : ℕ) (xs : List ℕ) → Rising xs → (q : ℕ) → In q xs → In q (take k xs) ⊎ ((length (take k xs) ≡ k) × AllByRecursion (λ x. x < q) (take k xs))
 take_or_above zero xs r q i = inr (refl, tt)
 take_or_above (suc k) [] r q i = absurd i
 take_or_above (suc k) (x ∷ xs) r q (inl e) = inl (inl e)
@@ -66,9 +66,9 @@ module _ {k : ℕ} {P : ℕ → Type 0} where
   in_other : (xs ys : List ℕ) → FirstK k P xs → FirstK k P ys → (q : ℕ) → In q xs → In q ys
   in_other xs ys a b q i = ⊎_elim (λ j. j) (λ r. absurd (no r)) (b.first q (all_in P xs a.right q i))
     where
-      no : (length ys ≡ k) × All (λ y. y < q) ys → ⊥
+      no : (length ys ≡ k) × AllByRecursion (λ y. y < q) ys → ⊥
       no r =
-          let stand : All (λ y. In y xs) ys = all_from_in (λ y. In y xs) ys (λ y j.
+          let stand : AllByRecursion (λ y. In y xs) ys = all_from_in (λ y. In y xs) ys (λ y j.
           ⊎_elim (λ s. s)
           (λ s. let u = all_in (λ z. z < y) xs s.1 q i in let v = all_in (λ z. z < q) ys r.1 y j in absurd (omega arith))
           (a.first y (all_in P ys b.right y j))) in

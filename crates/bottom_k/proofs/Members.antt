@@ -1,6 +1,6 @@
 -- What stands in a list, and what a filter keeps.
 use Rattle.std.proofs.Common.{◌≡◌, ℕ, ◌+◌, ◌<◌, ◌≤◌, Bool, true, false, cond, T, ◌⊎◌, List, [], ◌∷◌, ◌++◌, map, length, filter, sym, refl, ap, ◌∙◌, subst, inl, inr, ⊎_elim, arith}
-use Rattle.std.specs.List.{AllByRecursion as All}
+use Rattle.std.specs.List.{AllByRecursion}
 use Rattle.graph.specs.Members.{In}
 
 module _ {X : Type 0} where
@@ -44,7 +44,7 @@ module _ {X : Type 0} where
       (λ j. let r = kept_in f x ys j in (inr r.0, r.1))
       (put_cases (f y) x y (filter f ys) i)
 
-  pub kept_all : (f : X → Bool) (xs : List X) → All (λ x. T (f x)) xs → filter f xs ≡ xs
+  pub kept_all : (f : X → Bool) (xs : List X) → AllByRecursion (λ x. T (f x)) xs → filter f xs ≡ xs
   kept_all f [] h = refl
   kept_all f (y ∷ ys) h = put (f y) h.0 ∙ ap (λ zs. y ∷ zs) (kept_all f ys h.1)
     where

@@ -1,6 +1,6 @@
 -- Lists in order: filtered, cut, longer by one, read off another; and that the members make the list.
 use Rattle.std.proofs.Common.{◌≡◌, ℕ, zero, suc, Bool, true, false, cond, List, [], ◌∷◌, ◌++◌, map, take, filter, sym, refl, ap, ◌∙◌, subst, inl, inr, ⊎_elim}
-use Rattle.std.specs.List.{AllByRecursion as All}
+use Rattle.std.specs.List.{AllByRecursion}
 use Rattle.std.proofs.ByRecursion.{All-append, all_kept_by, All-take}
 use Rattle.graph.specs.Members.{In}
 use Rattle.graph.proofs.Lists.{all_in, all_from_in}
@@ -21,12 +21,12 @@ module _ {X : Type 0} (R : X → X → Type 0) where
   ordered_take (suc k) [] h = tt
   ordered_take (suc k) (x ∷ xs) h = (All-take (R x) k xs h.0, ordered_take k xs h.1)
 
-  pub ordered_push : (xs : List X) (y : X) → Ordered R xs → All (λ x. R x y) xs → Ordered R (xs ++ y ∷ [])
+  pub ordered_push : (xs : List X) (y : X) → Ordered R xs → AllByRecursion (λ x. R x y) xs → Ordered R (xs ++ y ∷ [])
   ordered_push [] y r h = (tt, tt)
   ordered_push (x ∷ xs) y r h = (All-append (R x) xs (y ∷ []) r.0 (h.0, tt), ordered_push xs y r.1 h.1)
 
   -- what precedes the last
-  pub ordered_front : (xs : List X) (y : X) → Ordered R (xs ++ y ∷ []) → All (λ x. R x y) xs
+  pub ordered_front : (xs : List X) (y : X) → Ordered R (xs ++ y ∷ []) → AllByRecursion (λ x. R x y) xs
   ordered_front [] y r = tt
   ordered_front (x ∷ xs) y r = (all_in (R x) (xs ++ y ∷ []) r.0 y (last xs), ordered_front xs y r.1)
     where

@@ -2,7 +2,7 @@
 use Rattle.std.proofs.Common.{◌≡◌, ℕ, zero, suc, ◌<◌, ◌≤◌, Bool, true, false, cond, T, eqb, ◌⊎◌, List, [], ◌∷◌, map, length, get_or, take, sym, refl, ap, ◌∙◌, subst, inl, inr, ⊎_elim, arith, eqb→eq}
 use lib.Dec.{eqb_refl}
 use lib.ListN.{length-map}
-use Rattle.std.specs.List.{AllByRecursion as All}
+use Rattle.std.specs.List.{AllByRecursion}
 use Rattle.std.proofs.ByRecursion.{All-get_or, All-map}
 use Rattle.std.proofs.lemmas.Bool.{cases_order}
 use Rattle.graph.specs.Members.{In}
@@ -130,7 +130,7 @@ module _ {L : Type 0} (f : Founding L) where
         apart qs near = apart_map stands_at qs
             (λ x y i j e. one_position f.ranks order rising x y (omega (arith, r.2, (early qs near x i).0)) (omega (arith, r.2, (early qs near y j).0)) e) near.0
 
-        all : (qs : List ℕ) → NearBefore (setting_of f) v p d qs → All (λ w. Before f.ranks w u × Within f.measure f.map v w d) (map stands_at qs)
+        all : (qs : List ℕ) → NearBefore (setting_of f) v p d qs → AllByRecursion (λ w. Before f.ranks w u × Within f.measure f.map v w d) (map stands_at qs)
         all qs near = all_from_in (λ w. Before f.ranks w u × Within f.measure f.map v w d) (map stands_at qs) (λ w i.
             let k = map_in stands_at w qs i in
             let o = early qs near k.0 k.1 in
@@ -155,7 +155,7 @@ module _ {L : Type 0} (f : Founding L) where
         Close : ℕ → Type 0
         Close w = Before f.ranks w u × Within f.measure f.map v w d
 
-        near_in : (ws : List ℕ) → All Close ws → (w : ℕ) → In w ws → Close w
+        near_in : (ws : List ℕ) → AllByRecursion Close ws → (w : ℕ) → In w ws → Close w
         near_in ws near w i = all_in Close ws near w i
 
         position : ℕ → ℕ
@@ -164,7 +164,7 @@ module _ {L : Type 0} (f : Founding L) where
         stands : (w : ℕ) → Close w → (position w < length order) × (stands_at (position w) ≡ w)
         stands w close = position_stands w order (((ranking_is_computed f.ranks f.map.places).places w).1 (ends_inside f.map v close.1.0 w close.1.1))
 
-        all : (ws : List ℕ) → All Close ws → All (λ q. (q < p) × Near (setting_of f) v q d) (map position ws)
+        all : (ws : List ℕ) → AllByRecursion Close ws → AllByRecursion (λ q. (q < p) × Near (setting_of f) v q d) (map position ws)
         all ws near = all_from_in (λ q. (q < p) × Near (setting_of f) v q d) (map position ws) (λ q i.
             let k = map_in position q ws i in
             let w = k.0 in
@@ -193,7 +193,7 @@ module _ {L : Type 0} (f : Founding L) where
         inside q i = inside_order q (omega (arith, (all_in (ReachedFromSome (setting_of f) swept starts t) xs sample.right q i).0))
 
         go : (u : ℕ) → (p : ℕ) × (p < swept) × (p < length order) × (get_or order p 0 ≡ u) → (v : ℕ) × In v starts × Within f.measure f.map v u t →
-            In u (map stands_at xs) ⊎ ((length (map stands_at xs) ≡ f.k) × All (λ w. Before f.ranks w u) (map stands_at xs))
+            In u (map stands_at xs) ⊎ ((length (map stands_at xs) ≡ f.k) × AllByRecursion (λ w. Before f.ranks w u) (map stands_at xs))
         go u p r = ⊎_elim
             (λ i. inl (subst (λ x. In x (map stands_at xs)) p.3 (in_map stands_at p.0 xs i)))
             (λ o. inr (

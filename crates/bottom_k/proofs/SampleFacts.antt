@@ -2,7 +2,7 @@
 use Rattle.std.proofs.Common.{◌≡◌, ℕ, ◌<◌, ◌≤◌, ltb, ◌⊎◌, List, [], ◌∷◌, map, length, take, sym, refl, subst, inl, inr, ⊎_elim, arith}
 use native.Mathlib.Decide.{dec_lt}
 use lib.ListN.{length-map}
-use Rattle.std.specs.List.{AllByRecursion as All}
+use Rattle.std.specs.List.{AllByRecursion}
 use Rattle.std.proofs.ByRecursion.{All-take}
 use Rattle.graph.specs.Members.{In}
 use Rattle.graph.proofs.Lists.{all_in, all_from_in}
@@ -17,18 +17,18 @@ use Rattle.bottom_k.proofs.Counting.{near_more, noted_near, enough_noted}
 use Rattle.bottom_k.proofs.Firsts.{first_same, first_take, one_first}
 
 -- some element has the one, or all have the other
-sift : (P Q : ℕ → Type 0) (ps : List ℕ) → ((p : ℕ) → In p ps → P p ⊎ Q p) → ((p : ℕ) × In p ps × Q p) ⊎ All P ps
+sift : (P Q : ℕ → Type 0) (ps : List ℕ) → ((p : ℕ) → In p ps → P p ⊎ Q p) → ((p : ℕ) × In p ps × Q p) ⊎ AllByRecursion P ps
 sift P Q [] h = inr tt
 sift P Q (p ∷ ps) h = go (h p (inl refl)) (sift P Q ps (λ q i. h q (inr i)))
   where
-    go : P p ⊎ Q p → ((q : ℕ) × In q ps × Q q) ⊎ All P ps → ((q : ℕ) × In q (p ∷ ps) × Q q) ⊎ All P (p ∷ ps)
+    go : P p ⊎ Q p → ((q : ℕ) × In q ps × Q q) ⊎ AllByRecursion P ps → ((q : ℕ) × In q (p ∷ ps) × Q q) ⊎ AllByRecursion P (p ∷ ps)
     go (inr b) r = inl (p, inl refl, b)
     go (inl a) (inl r) = inl (r.0, inr r.1, r.2)
     go (inl a) (inr r) = inr (a, r)
 
 -- k different elements below q fill a list of k at most
-filled : (k q : ℕ) (ps xs : List ℕ) → Apart ps → All (λ p. p < q) ps → k ≤ length ps → length xs ≤ k → All (λ p. In p xs) ps →
-    (length xs ≡ k) × All (λ x. x < q) xs
+filled : (k q : ℕ) (ps xs : List ℕ) → Apart ps → AllByRecursion (λ p. p < q) ps → k ≤ length ps → length xs ≤ k → AllByRecursion (λ p. In p xs) ps →
+    (length xs ≡ k) × AllByRecursion (λ x. x < q) xs
 filled k q ps xs apart low many few stand =
     let fits = apart_fits ps xs apart stand in
     (omega arith, all_from_in (λ x. x < q) xs (λ x i. go x i (dec_lt x q)))
@@ -71,7 +71,7 @@ noted_if_few s swept v es due t q low near few =
     (l.0, (due.exact (record { position = q; length = l.0 })).1 n, l.2)
 
 module _ {L : Type 0} (s : Setting L) (swept : ℕ) (sketch : ℕ → List (Entry L)) (starts : List ℕ)
-    (due : All (λ v. Due s swept v (sketch v)) starts) (t : L) where
+    (due : AllByRecursion (λ v. Due s swept v (sketch v)) starts) (t : L) where
   -- the sketch of a start is due
   due_at : (v : ℕ) → In v starts → Due s swept v (sketch v)
   due_at v i = all_in (λ x. Due s swept x (sketch x)) starts due v i
@@ -95,14 +95,14 @@ module _ {L : Type 0} (s : Setting L) (swept : ℕ) (sketch : ℕ → List (Entr
     where
       -- a place that a start reaches is noted, or k places before it are, and these fill the sample
       go : (q : ℕ) → q < swept → (v : ℕ) → In v starts → Near s v q t →
-          Dec (length (entries_within s.measure t (entries_before q (sketch v))) < s.k) → In q xs ⊎ ((length xs ≡ s.k) × All (λ x. x < q) xs)
+          Dec (length (entries_within s.measure t (entries_before q (sketch v))) < s.k) → In q xs ⊎ ((length xs ≡ s.k) × AllByRecursion (λ x. x < q) xs)
       go q low v start near (yes few) = firsts.first q (v, start, noted_if_few s swept v (sketch v) (due_at v start) t q low near few)
       go q low v start near (no many) =
           ⊎_elim
           (λ r. let p-low = all_in (λ p. p < q) ps lower r.0 r.1 in
           inr (r.2.0, all_from_in (λ x. x < q) xs (λ x i. let k = all_in (λ z. z < r.0) xs r.2.1 x i in omega arith)))
           (λ stand. inr (filled s.k q ps xs earlier.0 lower (omega (arith, length-map near_entries (λ e. e.position))) firsts.few stand))
-          (sift (λ p. In p xs) (λ p. (length xs ≡ s.k) × All (λ x. x < p) xs) ps (λ p i. firsts.first p (noted p i)))
+          (sift (λ p. In p xs) (λ p. (length xs ≡ s.k) × AllByRecursion (λ x. x < p) xs) ps (λ p i. firsts.first p (noted p i)))
         where
           near_entries : List (Entry L)
           near_entries = entries_within s.measure t (entries_before q (sketch v))
@@ -110,10 +110,10 @@ module _ {L : Type 0} (s : Setting L) (swept : ℕ) (sketch : ℕ → List (Entr
           ps : List ℕ
           ps = map (λ e. e.position) near_entries
 
-          earlier : Apart ps × All (λ p. (p < q) × Near s v p t) ps
+          earlier : Apart ps × AllByRecursion (λ p. (p < q) × Near s v p t) ps
           earlier = noted_near s q v (entries_before q (sketch v)) (due_before s v swept q (sketch v) (omega arith) (due_at v start)) t
 
-          lower : All (λ p. p < q) ps
+          lower : AllByRecursion (λ p. p < q) ps
           lower = all_from_in (λ p. p < q) ps (λ p i. (all_in (λ z. (z < q) × Near s v z t) ps earlier.1 p i).0)
 
           noted : (p : ℕ) → In p ps → NotedBySome s sketch starts t p
@@ -145,8 +145,8 @@ module _ {L : Type 0} (s : Setting L) (swept v : ℕ) (t : L) where
       (first_take s.k ps (rising_kept (λ e. s.measure.at_most e.length t) es due.rising))))
 
   -- so the sample is noted
-  pub first_k_are_noted : (es : List (Entry L)) → Due s swept v es → (xs : List ℕ) → Sample s swept v t xs → All (λ q. NotedWithin s t q es) xs
+  pub first_k_are_noted : (es : List (Entry L)) → Due s swept v es → (xs : List ℕ) → Sample s swept v t xs → AllByRecursion (λ q. NotedWithin s t q es) xs
   first_k_are_noted es due xs sample =
       let ps = map (λ e. e.position) (entries_within s.measure t es) in
-      subst (λ ys. All (λ q. NotedWithin s t q es) ys) (one_first (take s.k ps) xs (sample_is_right es due) sample)
+      subst (λ ys. AllByRecursion (λ q. NotedWithin s t q es) ys) (one_first (take s.k ps) xs (sample_is_right es due) sample)
       (All-take (λ q. NotedWithin s t q es) s.k ps (all_from_in (λ q. NotedWithin s t q es) ps (noted_positions s t es)))

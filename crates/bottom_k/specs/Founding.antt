@@ -1,6 +1,6 @@
 -- What founding is given, the setting that this makes, and notes and samples said of places alone.
 use Rattle.std.specs.Prelude.{◌≡◌, ℕ, ◌<◌, ◌≤◌, ◌⊎◌, ◌↔◌, List, map, length, take}
-use Rattle.std.specs.List.{AllByRecursion as All}
+use Rattle.std.specs.List.{AllByRecursion}
 use Rattle.measure.specs.Laws.{OrderedMonoid}
 use Rattle.graph.specs.Members.{In}
 use Rattle.graph.specs.Graphs.{Graph}
@@ -26,7 +26,7 @@ setting_of f = record { measure = f.measure; map = f.map; k = f.k; order = ranki
 pub record NotesPlace {L : Type 0} (f : Founding L) (swept v u : ℕ) (d : L) : Type 0 where
   pub swept_place : In u (take swept (setting_of f).order)
   pub least : Least f.measure f.map v u d
-  pub fewer : (ws : List ℕ) → Apart ws → All (λ w. Before f.ranks w u × Within f.measure f.map v w d) ws → length ws < f.k
+  pub fewer : (ws : List ℕ) → Apart ws → AllByRecursion (λ w. Before f.ranks w u × Within f.measure f.map v w d) ws → length ws < f.k
 
 -- that is what is noted by position
 abbrev pub PositionsArePlaces : Type 0 → Type 0
@@ -41,9 +41,9 @@ PlaceReached f swept starts t u = In u (take swept (setting_of f).order) × ((v 
 -- whatever else is reached comes after all of k members
 pub record PlaceSample {L : Type 0} (f : Founding L) (swept : ℕ) (starts : List ℕ) (t : L) (us : List ℕ) : Type 0 where
   pub in_order : InOrder f.ranks us
-  pub reached : All (PlaceReached f swept starts t) us
+  pub reached : AllByRecursion (PlaceReached f swept starts t) us
   pub few : length us ≤ f.k
-  pub first : (u : ℕ) → PlaceReached f swept starts t u → In u us ⊎ ((length us ≡ f.k) × All (λ w. Before f.ranks w u) us)
+  pub first : (u : ℕ) → PlaceReached f swept starts t u → In u us ⊎ ((length us ≡ f.k) × AllByRecursion (λ w. Before f.ranks w u) us)
 
 -- the places at the positions of a joint sample are that list
 abbrev pub SamplesArePlaces : Type 0 → Type 0

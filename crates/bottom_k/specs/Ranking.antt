@@ -1,13 +1,13 @@
 -- The order of places: lower rank first, equal ranks by lower place number.
 use Rattle.std.specs.Prelude.{◌≡◌, ℕ, zero, suc, ◌<◌, ◌≤◌, Bool, cond, ◌⊎◌, ◌↔◌, List, [], ◌∷◌, length, slice_index}
-use Rattle.std.specs.List.{AllByRecursion as All}
+use Rattle.std.specs.List.{AllByRecursion}
 use Rattle.measure.specs.Orders.{number_order, pair_order}
 use Rattle.graph.specs.Members.{In}
 use Rattle.bottom_k.specs.Lists.{Ordered}
 
 -- ranks run from 1 to 4,294,967,295, one for each of n places
 abbrev pub Ranks : ℕ → List ℕ → Type 0
-Ranks n ranks = (length ranks ≡ n) × All (λ r. (1 ≤ r) × (r ≤ 4294967295)) ranks
+Ranks n ranks = (length ranks ≡ n) × AllByRecursion (λ r. (1 ≤ r) × (r ≤ 4294967295)) ranks
 
 -- the rank of a place
 abbrev pub rank_of : List ℕ → ℕ → ℕ

@@ -1,6 +1,6 @@
 -- The sketch due to a place: which swept places it notes, and at which lengths.
 use Rattle.std.specs.Prelude.{ℕ, ◌<◌, ◌≤◌, ◌↔◌, List, map, length, filter, nat_lt, slice_index}
-use Rattle.std.specs.List.{AllByRecursion as All}
+use Rattle.std.specs.List.{AllByRecursion}
 use Rattle.measure.specs.Laws.{OrderedMonoid}
 use Rattle.graph.specs.Members.{In}
 use Rattle.graph.specs.Graphs.{Graph}
@@ -30,7 +30,7 @@ Near s v q t = Within s.measure s.map v (place_at s q) t
 
 -- the positions of the list differ, stand before p, and their places lie within t of v
 abbrev pub NearBefore : {L : Type 0} → Setting L → ℕ → ℕ → L → List ℕ → Type 0
-NearBefore s v p t qs = Apart qs × All (λ q. (q < p) × Near s v q t) qs
+NearBefore s v p t qs = Apart qs × AllByRecursion (λ q. (q < p) × Near s v q t) qs
 
 -- fewer than k places before position p lie within t of v
 abbrev pub FewerNear : {L : Type 0} → Setting L → ℕ → ℕ → L → Type 0

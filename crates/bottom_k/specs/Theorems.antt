@@ -1,6 +1,6 @@
 -- The theorems on sketches and samples, over any lengths L: for every lawful measure, every map's meaning, every order and k.
 use Rattle.std.specs.Prelude.{◌≡◌, ℕ, suc, ◌+◌, ◌<◌, ◌≤◌, ◌↔◌, List, [], ◌∷◌, ◌++◌, map, length, take}
-use Rattle.std.specs.List.{AllByRecursion as All}
+use Rattle.std.specs.List.{AllByRecursion}
 use Rattle.graph.specs.Members.{In}
 use Rattle.bottom_k.specs.Lists.{FirstK}
 use Rattle.bottom_k.specs.Sketches.{Setting, Entry, ManyNear, Noted, Due, AllDue, place_at, entries_within, entries_before}
@@ -27,7 +27,7 @@ OneNumberIsDue L = (s : Setting L) (swept : ℕ) →
 -- the k first-ranked within a limit are noted, within that limit
 abbrev pub FirstKAreNoted : Type 0 → Type 0
 FirstKAreNoted L = (s : Setting L) (swept v : ℕ) (es : List (Entry L)) → Due s swept v es →
-    (t : L) (xs : List ℕ) → Sample s swept v t xs → All (λ q. NotedWithin s t q es) xs
+    (t : L) (xs : List ℕ) → Sample s swept v t xs → AllByRecursion (λ q. NotedWithin s t q es) xs
 
 -- counting entries is counting places: k or more entries of at most t are noted just if k or more swept places lie within t
 abbrev pub EntriesCountPlaces : Type 0 → Type 0
@@ -79,7 +79,7 @@ SampleIsRight L = (s : Setting L) (swept v : ℕ) (es : List (Entry L)) → Due 
 -- of what the sketches of the starts note within t, the k first are the joint sample
 abbrev pub JointSampleIsRight : Type 0 → Type 0
 JointSampleIsRight L = (s : Setting L) (swept : ℕ) (sketch : ℕ → List (Entry L)) (starts : List ℕ) →
-    All (λ v. Due s swept v (sketch v)) starts → (t : L) (xs : List ℕ) →
+    AllByRecursion (λ v. Due s swept v (sketch v)) starts → (t : L) (xs : List ℕ) →
     FirstK s.k (NotedBySome s sketch starts t) xs → JointSample s swept starts t xs
 
 -- the joint sample of one start is its sample

@@ -1,7 +1,7 @@
 -- The town of five: worked cases over the definitions that compute, with k = 2.
 use Rattle.std.specs.Prelude.{◌≡◌, ℕ, zero, suc, ◌<◌, ◌≤◌, List, [], ◌∷◌, map, length, Some, None, Option, slice_index_or}
 use Rattle.std.proofs.Common.{arith}
-use Rattle.std.specs.List.{AllByRecursion as All}
+use Rattle.std.specs.List.{AllByRecursion}
 use Rattle.measure.specs.SecondsLaws.{seconds, seconds_laws}
 use Rattle.measure.specs.FaresLaws.{fares, fares_join}
 use Rattle.measure.specs.declared.seconds.Seconds.{Seconds}
@@ -52,7 +52,7 @@ town_arcs =
     ∷ []
 
 -- what holds of every arc of the rows holds of those of any one
-pub all_of_rows : {X : Type 0} (P : X → Type 0) (rows : List (List X)) → All (λ row. All P row) rows → (w : ℕ) → All P (slice_index_or rows w [])
+pub all_of_rows : {X : Type 0} (P : X → Type 0) (rows : List (List X)) → AllByRecursion (λ row. AllByRecursion P row) rows → (w : ℕ) → AllByRecursion P (slice_index_or rows w [])
 all_of_rows P [] h w = tt
 all_of_rows P (row ∷ rows) h zero = h.0
 all_of_rows P (row ∷ rows) h (suc w) = all_of_rows P rows h.1 w

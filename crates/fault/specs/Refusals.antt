@@ -5,7 +5,7 @@ use Rattle.fault.specs.declared.atlas.AtlasFault.TheVariants.{RankZero, KOutOfBo
 use Rattle.fault.specs.declared.file.FileFault.{FileFault}
 use Rattle.fault.specs.declared.file.FileFault.TheVariants.{PartialRecord, BadByte, BadValue, OutOfOrder, OutOfRoom}
 use Rattle.fault.specs.declared.line.LineFault.{LineFault}
-use Rattle.fault.specs.declared.line.LineFault.TheVariants.{NoForm, Atlas as Of-atlas}
+use Rattle.fault.specs.declared.line.LineFault.TheVariants.{NoForm, Atlas as OfAtlas}
 use Rattle.fault.specs.declared.memory_test.MemoryTest.{MemoryTest}
 use Rattle.fault.specs.declared.memory_test.MemoryTest.TheVariants.{Order, Links, Positions, Counts, Places}
 use Rattle.fault.specs.declared.refusal.Layer.{Layer}
@@ -46,7 +46,7 @@ atlas_refusal (CellsRunOut place) = refusal 11 Atlas place
 -- a line that fits no form points at the leading bytes that it shares; the atlas's refusal is carried whole
 abbrev pub line_refusal : LineFault → Refusal
 line_refusal (NoForm shared) = refusal 12 Line shared
-line_refusal (Of-atlas fault) = atlas_refusal fault
+line_refusal (OfAtlas fault) = atlas_refusal fault
 
 -- how a layer is printed
 abbrev pub layer_text : Layer → List ℕ

@@ -1,7 +1,7 @@
 -- The table of least lengths is right: each entry is the least length over all ways, and missing exactly where there is none.
 use Rattle.std.proofs.Common.{◌≡◌, ℕ, zero, suc, ◌<◌, ◌≤◌, List, [], ◌∷◌, map, get_or, None, Option, sym, refl, ap, ◌∙◌, subst, arith}
 use native.Mathlib.Decide.{dec_lt}
-use Rattle.std.specs.List.{range_with_len, AllByRecursion as All}
+use Rattle.std.specs.List.{range_with_len, AllByRecursion}
 use Rattle.std.proofs.lemmas.List.FromFn.{get_or-map-range_with_len, length-map-range_with_len}
 use Rattle.std.proofs.lemmas.List.{get_or_past}
 use Rattle.measure.specs.Laws.{OrderedMonoid}
@@ -31,7 +31,7 @@ column_outside n f v w h k =
     ∙ get_or_past (map (f v) (range_with_len 0 n)) w None (omega (arith, length-map-range_with_len (f v) 0 n))
 
 module _ {L : Type 0} (m : OrderedMonoid L) (g : Graph L) where
-  right_of : (v w : ℕ) → v < g.places → (arcs : List (Arc L)) → All (λ a. In a (g.arriving w)) arcs → Right m g (Direct arcs) v w (shortest_of m v w arcs)
+  right_of : (v w : ℕ) → v < g.places → (arcs : List (Arc L)) → AllByRecursion (λ a. In a (g.arriving w)) arcs → Right m g (Direct arcs) v w (shortest_of m v w arcs)
   right_of v w inside [] h = right_no_arc m g v w inside
   right_of v w inside (a ∷ arcs) h = right_arc_more m g v w a arcs (a ∷ arcs) (λ b i. i) h.0 _ (right_of v w inside arcs h.1)
 

@@ -1,7 +1,7 @@
 -- The graph of a grid.
 use Rattle.std.proofs.Common.{ap, arith, ltb→lt}
 use Rattle.std.specs.Prelude.{ℕ, ◌+◌, ◌-◌, ◌*◌, ◌/◌, ◌%◌, ◌<◌, Bool, true, false, cond, ◌&&◌, T, List, [], ◌∷◌, ◌++◌, map, length, nat_lt}
-use Rattle.std.specs.List.{AllByRecursion as All}
+use Rattle.std.specs.List.{AllByRecursion}
 use Rattle.std.proofs.lemmas.Nat.{mul-le, mul-add-lt, div_below, mod_below}
 use Rattle.std.proofs.ByRecursion.{All-append, All-map}
 use Rattle.std.proofs.lemmas.Bool.{le-ltb}
@@ -17,15 +17,15 @@ cell_inside rows columns row column h k = omega (arith, mul-add-lt row columns c
 
 module _ (rows columns : ℕ) (bytes : List ℕ) where
   -- a source that exists lies inside
-  source_inside : (n place : ℕ) (exists : Bool) → (T exists → place < n) → All (λ p. p < n) (source bytes exists place)
+  source_inside : (n place : ℕ) (exists : Bool) → (T exists → place < n) → AllByRecursion (λ p. p < n) (source bytes exists place)
   source_inside n place true h = go (is_open bytes place)
     where
-      go : (t : Bool) → All (λ p. p < n) (cond (true && t) (place ∷ []) [])
+      go : (t : Bool) → AllByRecursion (λ p. p < n) (cond (true && t) (place ∷ []) [])
       go true = (h tt, tt)
       go false = tt
   source_inside n place false h = tt
 
-  pub sources_inside : (row column : ℕ) → row < rows → column < columns → All (λ p. p < rows * columns) (sources rows columns bytes row column)
+  pub sources_inside : (row column : ℕ) → row < rows → column < columns → AllByRecursion (λ p. p < rows * columns) (sources rows columns bytes row column)
   sources_inside row column h k = go (is_open bytes (cell columns row column))
     where
       n : ℕ
@@ -37,14 +37,14 @@ module _ (rows columns : ℕ) (bytes : List ℕ) where
           ++ (source bytes (nat_lt (column + 1) columns) (cell columns row (column + 1))
           ++ source bytes (nat_lt (row + 1) rows) (cell columns (row + 1) column)))
 
-      inside : All (λ p. p < n) beside
+      inside : AllByRecursion (λ p. p < n) beside
       inside =
           All-append (λ p. p < n) _ _ (source_inside n _ (nat_lt 0 row) (λ t. cell_inside rows columns (row - 1) column (omega arith) k))
           (All-append (λ p. p < n) _ _ (source_inside n _ (nat_lt 0 column) (λ t. cell_inside rows columns row (column - 1) h (omega arith)))
           (All-append (λ p. p < n) _ _ (source_inside n _ (nat_lt (column + 1) columns) (λ t. cell_inside rows columns row (column + 1) h (ltb→lt _ _ t)))
           (source_inside n _ (nat_lt (row + 1) rows) (λ t. cell_inside rows columns (row + 1) column (ltb→lt _ _ t) k))))
 
-      go : (t : Bool) → All (λ p. p < n) (cond t beside [])
+      go : (t : Bool) → AllByRecursion (λ p. p < n) (cond t beside [])
       go true = inside
       go false = tt
 
@@ -52,10 +52,10 @@ module _ (rows columns : ℕ) (bytes : List ℕ) where
   abbrev pub sources_of : ℕ → List ℕ
   sources_of place = cond (nat_lt place (rows * columns)) (sources rows columns bytes (place / columns) (place % columns)) []
 
-  pub sources_of_inside : 0 < columns → (place : ℕ) → All (λ p. p < rows * columns) (sources_of place)
+  pub sources_of_inside : 0 < columns → (place : ℕ) → AllByRecursion (λ p. p < rows * columns) (sources_of place)
   sources_of_inside some place = go (nat_lt place (rows * columns)) (ltb→lt place (rows * columns))
     where
-      go : (t : Bool) → (T t → place < rows * columns) → All (λ p. p < rows * columns) (cond t (sources rows columns bytes (place / columns) (place % columns)) [])
+      go : (t : Bool) → (T t → place < rows * columns) → AllByRecursion (λ p. p < rows * columns) (cond t (sources rows columns bytes (place / columns) (place % columns)) [])
       go true h = sources_inside (place / columns) (place % columns) (div_below place columns rows some (h tt)) (mod_below place columns some)
       go false h = tt
 

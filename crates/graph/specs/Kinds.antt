@@ -1,6 +1,6 @@
 -- Kinds of ways, and a length that is right for the ways of one kind: the steps by which the table of least lengths is built.
 use Rattle.std.specs.Prelude.{ℕ, T, List, [], ◌∷◌, Some, None, Option}
-use Rattle.std.specs.List.{AllByRecursion as All}
+use Rattle.std.specs.List.{AllByRecursion}
 use Rattle.measure.specs.Laws.{OrderedMonoid}
 use Rattle.graph.specs.Members.{In}
 use Rattle.graph.specs.Graphs.{Graph}
@@ -9,7 +9,7 @@ use Rattle.graph.specs.declared.arc.Arc.{Arc}
 
 -- every arc departs from a place of the list
 abbrev pub DepartIn : {L : Type 0} → List ℕ → List (ArcTo L) → Type 0
-DepartIn xs arcs = All (λ a. In a.arc.from xs) arcs
+DepartIn xs arcs = AllByRecursion (λ a. In a.arc.from xs) arcs
 
 -- every arc but the first departs from a place of the list
 abbrev pub Through : {L : Type 0} → List ℕ → List (ArcTo L) → Type 0

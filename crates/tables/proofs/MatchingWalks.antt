@@ -1,7 +1,7 @@
 -- A chain of cells and the two walks along it.
 use Rattle.std.proofs.Common.{◌≡◌, ℕ, zero, suc, ◌↔◌, List, [], ◌∷◌, ◌++◌, reverse, length, Some, sym, refl, ap, ◌∙◌, subst}
 use mathlib.Core.List.{reverse-cons}
-use Rattle.std.specs.List.{AllByRecursion as All}
+use Rattle.std.specs.List.{AllByRecursion}
 use Rattle.tables.specs.declared.rows.HomeRow.{HomeRow}
 use Rattle.tables.specs.declared.rows.Cell.{Cell}
 use Rattle.tables.specs.Rows.{missing, home_at}
@@ -26,7 +26,7 @@ module _ {R : Type 0} (cells : List (Cell R)) where
     pub met : List ℕ
     pub on : Walk (λ c. c.after) cells at met end
     pub back : Walk (λ c. c.before) cells last (reverse met) prev
-    pub owned : All (OwnedBy v cells) met
+    pub owned : AllByRecursion (OwnedBy v cells) met
     pub many : length met ≡ k
 
   pub chain_met : (v last end prev at k : ℕ) → Chain cells v last end prev at k → Met v last end prev at k
@@ -43,7 +43,7 @@ module _ {R : Type 0} (cells : List (Cell R)) where
         many = ap suc m.many;
       }
 
-  pub met_chain : (v last end prev at : ℕ) (js : List ℕ) → Walk (λ c. c.after) cells at js end → Walk (λ c. c.before) cells last (reverse js) prev → All (OwnedBy v cells) js
+  pub met_chain : (v last end prev at : ℕ) (js : List ℕ) → Walk (λ c. c.after) cells at js end → Walk (λ c. c.before) cells last (reverse js) prev → AllByRecursion (OwnedBy v cells) js
       → Chain cells v last end prev at (length js)
   met_chain v last end prev at [] on back owned = (on, back)
   met_chain v last end prev at (j ∷ js) (a, (c, e, on)) back ((d, f, o), owned) =

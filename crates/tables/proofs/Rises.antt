@@ -1,6 +1,6 @@
 -- Positions that rise, as a walk meets them: each at least one more than the one before.
 use Rattle.std.proofs.Common.{ℕ, ◌+◌, ◌<◌, ◌≤◌, List, [], ◌∷◌, ◌++◌, arith}
-use Rattle.std.specs.List.{AllByRecursion as All}
+use Rattle.std.specs.List.{AllByRecursion}
 use Rattle.std.proofs.ByRecursion.{All-weaker}
 use Rattle.tables.specs.declared.rows.Entry.{Entry}
 use Rattle.tables.specs.Walks.{positions}
@@ -12,7 +12,7 @@ Rises top low [] = Unit {0}
 Rises top low (e ∷ es) = (low ≤ e.position) × (e.position < top) × Rises top (e.position + 1) es
 
 module _ {R : Type 0} where
-  from_low : (top low : ℕ) (es : List (Entry R)) → Rises top low es → All (λ p. low ≤ p) (positions es)
+  from_low : (top low : ℕ) (es : List (Entry R)) → Rises top low es → AllByRecursion (λ p. low ≤ p) (positions es)
   from_low top low [] r = tt
   from_low top low (e ∷ es) (a, b, r) = (a, All-weaker (λ p. e.position + 1 ≤ p) (λ p. low ≤ p) (λ p h. omega arith) (positions es) (from_low top (e.position + 1) es r))
 
@@ -24,7 +24,7 @@ module _ {R : Type 0} where
         (b, under),
       )
 
-  pub rises_from : (top low : ℕ) (es : List (Entry R)) → All (λ p. low ≤ p) (positions es) → RisingBelow top (positions es) → Rises top low es
+  pub rises_from : (top low : ℕ) (es : List (Entry R)) → AllByRecursion (λ p. low ≤ p) (positions es) → RisingBelow top (positions es) → Rises top low es
   rises_from top low [] l r = tt
   rises_from top low (e ∷ es) (a, l) ((over, rise), (b, under)) =
       (a, b, rises_from top (e.position + 1) es (All-weaker (λ p. e.position < p) (λ p. e.position + 1 ≤ p) (λ p h. omega arith) (positions es) over) (rise, under))

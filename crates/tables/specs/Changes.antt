@@ -1,6 +1,6 @@
 -- What linking an entry at the end of a sketch takes and does, and unlinking the last one.
 use Rattle.std.specs.Prelude.{◌≡◌, ℕ, ◌+◌, ◌<◌, ◌≤◌, List, [], ◌∷◌, ◌++◌, length, drop, Some, ◌≢◌}
-use Rattle.std.specs.List.{AllByRecursion as All, slice_get}
+use Rattle.std.specs.List.{AllByRecursion, slice_get}
 use Rattle.tables.specs.declared.rows.HomeRow.{HomeRow}
 use Rattle.tables.specs.declared.rows.Cell.{Cell}
 use Rattle.tables.specs.declared.rows.Entry.{Entry}
@@ -35,7 +35,7 @@ pub record CanAppend {R : Type 0} (n swept used : ℕ) (home : List HomeRow) (ce
   pub place : v < n
   pub home_long : n ≤ length home
   pub sound : SketchesSound n swept used home cells
-  pub above : All (λ p. p < e.position) (positions (plain_sketch home cells v))
+  pub above : AllByRecursion (λ p. p < e.position) (positions (plain_sketch home cells v))
   pub below : e.position < swept
   pub room : Free n cells free
 

@@ -1,6 +1,6 @@
 -- What linked means, said by the two walks of a sketch: forward from its first cell, and back from its last.
 use Rattle.std.specs.Prelude.{◌≡◌, ℕ, ◌↔◌, List, [], ◌∷◌, reverse, length, Some}
-use Rattle.std.specs.List.{AllByRecursion as All}
+use Rattle.std.specs.List.{AllByRecursion}
 use Rattle.tables.specs.declared.rows.HomeRow.{HomeRow}
 use Rattle.tables.specs.declared.rows.Cell.{Cell}
 use Rattle.tables.specs.Rows.{missing, home_at, cell_at}
@@ -17,7 +17,7 @@ pub record WalksMatch {R : Type 0} (home : List HomeRow) (cells : List (Cell R))
   pub met : List ℕ
   pub walked_forward : Walk (λ c. c.after) cells (home_at home v).first met missing
   pub walked_back : Walk (λ c. c.before) cells (home_at home v).last (reverse met) missing
-  pub owned : All (OwnedBy v cells) met
+  pub owned : AllByRecursion (OwnedBy v cells) met
   pub as_many : length met ≡ (home_at home v).entries
 
 -- a sketch is linked exactly if its walks match

@@ -1,6 +1,6 @@
 -- The five tests of an atlas's memory, over the tables and plain numbers: n places, so many of them swept, so many cells used.
 use Rattle.std.specs.Prelude.{◌≡◌, ℕ, ◌+◌, ◌<◌, ◌≤◌, ◌⊎◌, List, length, take, IfSome, sum_by, count_by, Option, nat_lt}
-use Rattle.std.specs.List.{AllByRecursion as All}
+use Rattle.std.specs.List.{AllByRecursion}
 use Rattle.fault.specs.Refusals.{test_number}
 use Rattle.fault.specs.declared.memory_test.MemoryTest.{MemoryTest}
 use Rattle.fault.specs.declared.memory_test.MemoryTest.TheVariants.{Order, Links, Positions, Counts, Places}
@@ -42,7 +42,7 @@ pub record LinksTest {R : Type 0} (n used : ℕ) (home : List HomeRow) (cells : 
 
 -- numbers that rise and are below a bound
 abbrev pub RisingBelow : ℕ → List ℕ → Type 0
-RisingBelow bound ps = Rising ps × All (λ p. p < bound) ps
+RisingBelow bound ps = Rising ps × AllByRecursion (λ p. p < bound) ps
 
 -- positions along a sketch rise and are below the number swept
 abbrev pub PositionsTest : {R : Type 0} → ℕ → ℕ → List HomeRow → List (Cell R) → Type 0

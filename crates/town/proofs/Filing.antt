@@ -1,7 +1,7 @@
 -- The file of rows.
 use Rattle.std.proofs.Common.{◌≡◌, ◌+◌, ◌*◌, map, length, vec_items, vec_len, sym, ap, ◌∙◌, arith, length-append}
 use lib.ListN.{length-map}
-use Rattle.std.specs.List.{AllByRecursion as All}
+use Rattle.std.specs.List.{AllByRecursion}
 use Rattle.town_record.specs.FileForms.{FileForm}
 use Rattle.town_record.specs.Parts.{arc_record}
 use Rattle.town.specs.declared.rows.Rows.{Rows}
@@ -24,7 +24,7 @@ module _ {L : Type 0} (f : FileForm L) (r : Rows L) where
       let o = r.tables.arcs.ok.0 in
       omega arith
 
-  pub all_whole : All (λ x. length x ≡ 16) (rows_records f r)
+  pub all_whole : AllByRecursion (λ x. length x ≡ 16) (rows_records f r)
   all_whole = records_long f (vec_items r.tables.ranks) (vec_items r.tables.names) (vec_items r.tables.arcs)
 
   pub file_long : length (rows_file f r) ≡ 16 * (vec_len r.tables.ranks + vec_len r.tables.arcs)

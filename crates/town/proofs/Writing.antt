@@ -2,7 +2,7 @@
 use Rattle.std.proofs.Common.{◌≡◌, ℕ, zero, suc, ◌+◌, ◌-◌, ◌*◌, ◌<◌, ◌≤◌, List, [], ◌∷◌, ◌++◌, map, length, get_or, take, drop, replicate, sym, refl, ap, ◌∙◌, arith, length-append}
 use borrow.Rule.Slice.PartMut.{put_mid}
 use lib.ListN.{length-replicate}
-use Rattle.std.specs.List.{concat, AllByRecursion as All}
+use Rattle.std.specs.List.{concat, AllByRecursion}
 use Rattle.std.proofs.lemmas.List.{take_more, take_all, take-append-drop, get_or_append_left, get_or-append_right, get_or-map, length_push}
 use Rattle.std.proofs.lemmas.Slice.{take-put_mid, drop-put_mid}
 use Rattle.town_record.specs.FileForms.{FileForm}
@@ -32,11 +32,11 @@ wrote_more rs i was now next r w inside is sized fits put =
         let k : a + (b - a) ≡ b = omega arith in
         ap (λ n. drop n xs) (sym k) ∙ sym (Rattle.std.proofs.lemmas.List.drop-drop (b - a) a xs) ∙ ap (drop (b - a)) e ∙ Rattle.std.proofs.lemmas.List.drop-drop (b - a) a ys ∙ ap (λ n. drop n ys) k
 
-pub length_joined : (rs : List (List ℕ)) → All (λ r. length r ≡ 16) rs → length (concat rs) ≡ 16 * length rs
+pub length_joined : (rs : List (List ℕ)) → AllByRecursion (λ r. length r ≡ 16) rs → length (concat rs) ≡ 16 * length rs
 length_joined [] h = refl
 length_joined (r ∷ rs) h = let a = length-append r (concat rs) in let b = h.0 in let c = length_joined rs h.1 in omega arith
 
-pub wrote_all : (rs : List (List ℕ)) (was now : List ℕ) → Wrote rs (length rs) was now → All (λ r. length r ≡ 16) rs → (now ≡ concat rs ++ drop (length (concat rs)) was) × (length (concat rs) ≡ 16 * length rs)
+pub wrote_all : (rs : List (List ℕ)) (was now : List ℕ) → Wrote rs (length rs) was now → AllByRecursion (λ r. length r ≡ 16) rs → (now ≡ concat rs ++ drop (length (concat rs)) was) × (length (concat rs) ≡ 16 * length rs)
 wrote_all rs was now w sized =
     let long = length_joined rs sized in (
       sym (take-append-drop (16 * length rs) now)
@@ -74,11 +74,11 @@ module _ {L : Type 0} (f : FileForm L) where
       let u = f.few in
       omega arith
 
-  arcs_long : (arcs : List (ArcRow L)) → All (λ r. length r ≡ 16) (map (arc_record f) arcs)
+  arcs_long : (arcs : List (ArcRow L)) → AllByRecursion (λ r. length r ≡ 16) (map (arc_record f) arcs)
   arcs_long [] = tt
   arcs_long (a ∷ arcs) = (arc_record_long a, arcs_long arcs)
 
-  pub records_long : (ranks : List ℕ) (names : List Name) (arcs : List (ArcRow L)) → All (λ r. length r ≡ 16) (place_records ranks names ++ map (arc_record f) arcs)
+  pub records_long : (ranks : List ℕ) (names : List Name) (arcs : List (ArcRow L)) → AllByRecursion (λ r. length r ≡ 16) (place_records ranks names ++ map (arc_record f) arcs)
   records_long [] names arcs = arcs_long arcs
   records_long (r ∷ ranks) [] arcs = arcs_long arcs
   records_long (r ∷ ranks) (n ∷ names) arcs = (let s = n.sized in omega arith, records_long ranks names arcs)

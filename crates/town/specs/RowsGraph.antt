@@ -1,7 +1,7 @@
 -- What rows mean: the map, and the file written for them.
 use Rattle.std.specs.Prelude.{ℕ, ◌<◌, List, [], ◌∷◌, ◌++◌, map, length, vec_items, vec_len, nat_eq}
 use Rattle.std.proofs.Common.{ap, arith}
-use Rattle.std.specs.List.{concat, AllByRecursion as All}
+use Rattle.std.specs.List.{concat, AllByRecursion}
 use Rattle.std.proofs.ByRecursion.{all_kept_by}
 use Rattle.graph.specs.Graphs.{Graph}
 use Rattle.graph.specs.declared.arc.Arc.{Arc}
@@ -16,7 +16,7 @@ use Rattle.town.specs.SpanLaws.{arriving_at, none_beyond, all_below}
 abbrev pub as_arc : {L : Type 0} → ArcRow L → Arc L
 as_arc a = record { from = a.from; length = a.length }
 
-pub all_as_arc : {L : Type 0} (n : ℕ) (arcs : List (ArcRow L)) → All (λ a. a.from < n) arcs → All (λ a. a.from < n) (map as_arc arcs)
+pub all_as_arc : {L : Type 0} (n : ℕ) (arcs : List (ArcRow L)) → AllByRecursion (λ a. a.from < n) arcs → AllByRecursion (λ a. a.from < n) (map as_arc arcs)
 all_as_arc n [] h = tt
 all_as_arc n (a ∷ arcs) h = (h.0, all_as_arc n arcs h.1)
 

@@ -1,7 +1,7 @@
 -- The arcs that arrive at a place are those of its span.
 use Rattle.std.specs.Prelude.{◌≡◌, ℕ, zero, suc, ◌+◌, ◌-◌, ◌<◌, ◌≤◌, List, [], ◌∷◌, length, take, drop, filter, nat_eq, slice_index, refl}
 use Rattle.std.proofs.Common.{ap, subst, ◌∙◌, arith}
-use Rattle.std.specs.List.{AllByRecursion as All}
+use Rattle.std.specs.List.{AllByRecursion}
 use Rattle.std.proofs.lemmas.List.{get_or_past, length-map}
 use Rattle.std.proofs.lemmas.Bool.{cond-true, cond-false, eq-eqb, ne_eqb}
 use Rattle.town_record.specs.declared.arc_row.ArcRow.{ArcRow}
@@ -57,6 +57,6 @@ module _ {L : Type 0} (spans : List Span) (arcs : List (ArcRow L)) (ends : Ends 
   none_beyond w h = kept_span w ∙ ap (λ s. take s.count (drop s.first arcs)) (get_or_past spans w no_arcs h)
 
 -- from-places below n, arc by arc
-pub all_below : {L : Type 0} (arcs : List (ArcRow L)) (n : ℕ) → Below (froms arcs) n → All (λ a. a.from < n) arcs
+pub all_below : {L : Type 0} (arcs : List (ArcRow L)) (n : ℕ) → Below (froms arcs) n → AllByRecursion (λ a. a.from < n) arcs
 all_below [] n h = tt
 all_below (x ∷ arcs) n h = (h 0 (omega arith), all_below arcs n (λ j l. h (suc j) (omega arith)))

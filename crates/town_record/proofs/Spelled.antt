@@ -1,6 +1,6 @@
 -- A list's rest, and a part of it, spelled out by its elements.
 use Rattle.std.proofs.Common.{◌≡◌, ℕ, zero, suc, ◌+◌, ◌-◌, ◌<◌, ◌≤◌, List, [], ◌∷◌, length, get_or, take, drop, Some, sym, refl, ap, ◌∙◌, arith, length-drop, length-take}
-use Rattle.std.specs.List.{between, AllByRecursion as All}
+use Rattle.std.specs.List.{between, AllByRecursion}
 use Rattle.std.proofs.ByRecursion.{All-take}
 use Rattle.std.proofs.lemmas.List.{drop_all, drop-drop, drop_more}
 use Rattle.std.proofs.lemmas.Slice.{between_to_end}
@@ -31,7 +31,7 @@ used_bytes r used h few =
     ap (drop (8 - used)) (between_to_end r 8 16 (omega arith)) ∙ drop-drop (8 - used) 8 r ∙ ap (λ n. drop n r) p ∙ sym (between_to_end r (16 - used) 16 (omega arith))
 
 -- bytes below 256, one by one and all together
-pub all_below : (xs : List ℕ) → ((i : ℕ) → get_or xs i 0 < 256) → All (λ b. b < 256) xs
+pub all_below : (xs : List ℕ) → ((i : ℕ) → get_or xs i 0 < 256) → AllByRecursion (λ b. b < 256) xs
 all_below [] h = tt
 all_below (x ∷ xs) h = (h 0, all_below xs (λ i. h (suc i)))
 
@@ -54,7 +54,7 @@ module _ (r : List ℕ) (whole : length r ≡ 16) (fits : (i : ℕ) → get_or r
       let long : length (length_bytes f.used r) ≡ f.used = simp (length-take, length-drop) (omega arith) in
       f.writes_back (length_bytes f.used r) l long (All-take (λ b. b < 256) (16 - (16 - f.used)) (drop (16 - f.used) r) (all_drop (16 - f.used) r (all_below r fits))) e
     where
-      all_drop : (n : ℕ) (xs : List ℕ) → All (λ b. b < 256) xs → All (λ b. b < 256) (drop n xs)
+      all_drop : (n : ℕ) (xs : List ℕ) → AllByRecursion (λ b. b < 256) xs → AllByRecursion (λ b. b < 256) (drop n xs)
       all_drop zero xs h = h
       all_drop (suc n) [] h = tt
       all_drop (suc n) (x ∷ xs) h = all_drop n xs h.1

@@ -2,7 +2,7 @@
 use Rattle.std.specs.Prelude.{◌≡◌, ℕ, zero, suc, ◌+◌, ◌*◌, ◌/◌, ◌%◌, ◌<◌, List, [], ◌∷◌, ◌++◌, length}
 use Rattle.std.proofs.Common.{sym, ap, ◌∙◌, arith}
 use Rattle.std.proofs.Math.Nat.{div-div-eq-div-mul}
-use Rattle.std.specs.List.{AllByRecursion as All}
+use Rattle.std.specs.List.{AllByRecursion}
 use Rattle.town_record.specs.Bytes.{byte, two, four, two_bytes, four_bytes}
 
 -- the bytes of a number give the number
@@ -38,13 +38,13 @@ module _ (a b c d : ℕ) (ha : a < 256) (hb : b < 256) (hc : c < 256) (hd : d < 
       let s : n % 256 ≡ d = omega arith in
       λ i. p i ∷ q i ∷ r i ∷ s i ∷ []
 
-pub two_bytes_back : (bs : List ℕ) → length bs ≡ 2 → All (λ b. b < 256) bs → two_bytes (two bs 0) ≡ bs
+pub two_bytes_back : (bs : List ℕ) → length bs ≡ 2 → AllByRecursion (λ b. b < 256) bs → two_bytes (two bs 0) ≡ bs
 two_bytes_back [] h all = absurd (omega arith)
 two_bytes_back (a ∷ []) h all = absurd (omega arith)
 two_bytes_back (a ∷ b ∷ []) h all = bytes_of_two a b all.0 all.1.0
 two_bytes_back (a ∷ b ∷ c ∷ bs) h all = absurd (omega arith)
 
-pub four_bytes_back : (bs : List ℕ) → length bs ≡ 4 → All (λ b. b < 256) bs → four_bytes (four bs 0) ≡ bs
+pub four_bytes_back : (bs : List ℕ) → length bs ≡ 4 → AllByRecursion (λ b. b < 256) bs → four_bytes (four bs 0) ≡ bs
 four_bytes_back [] h all = absurd (omega arith)
 four_bytes_back (a ∷ []) h all = absurd (omega arith)
 four_bytes_back (a ∷ b ∷ []) h all = absurd (omega arith)
@@ -53,7 +53,7 @@ four_bytes_back (a ∷ b ∷ c ∷ d ∷ []) h all = bytes_of_four a b c d all.0
 four_bytes_back (a ∷ b ∷ c ∷ d ∷ e ∷ bs) h all = absurd (omega arith)
 
 -- the same of two numbers of four bytes, one after the other
-pub eight_bytes_back : (bs : List ℕ) → length bs ≡ 8 → All (λ b. b < 256) bs → four_bytes (four bs 0) ++ four_bytes (four bs 4) ≡ bs
+pub eight_bytes_back : (bs : List ℕ) → length bs ≡ 8 → AllByRecursion (λ b. b < 256) bs → four_bytes (four bs 0) ++ four_bytes (four bs 4) ≡ bs
 eight_bytes_back [] h all = absurd (omega arith)
 eight_bytes_back (a ∷ []) h all = absurd (omega arith)
 eight_bytes_back (a ∷ b ∷ []) h all = absurd (omega arith)
@@ -64,14 +64,14 @@ eight_bytes_back (a ∷ b ∷ c ∷ d ∷ bs) h all =
     λ i. first i ++ last i
 
 -- bytes below 256 give numbers of their width
-byte_below : (bs : List ℕ) (i : ℕ) → All (λ b. b < 256) bs → byte bs i < 256
+byte_below : (bs : List ℕ) (i : ℕ) → AllByRecursion (λ b. b < 256) bs → byte bs i < 256
 byte_below [] i all = omega arith
 byte_below (b ∷ bs) zero all = all.0
 byte_below (b ∷ bs) (suc i) all = byte_below bs i all.1
 
-pub two_below : (bs : List ℕ) (i : ℕ) → All (λ b. b < 256) bs → two bs i < 65536
+pub two_below : (bs : List ℕ) (i : ℕ) → AllByRecursion (λ b. b < 256) bs → two bs i < 65536
 two_below bs i all = omega (arith, byte_below bs i all, byte_below bs (i + 1) all)
 
-pub four_below : (bs : List ℕ) (i : ℕ) → All (λ b. b < 256) bs → four bs i < 4294967296
+pub four_below : (bs : List ℕ) (i : ℕ) → AllByRecursion (λ b. b < 256) bs → four bs i < 4294967296
 four_below bs i all =
     omega (arith, byte_below bs i all, byte_below bs (i + 1) all, byte_below bs (i + 2) all, byte_below bs (i + 3) all)

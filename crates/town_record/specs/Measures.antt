@@ -1,7 +1,7 @@
 -- The forms of the three measures in a file: seconds use 4 bytes, rise 2, fares 8.
 use Rattle.std.specs.Prelude.{◌≡◌, ℕ, ◌<◌, cond, List, ◌++◌, length, Some, None, Option, nat_le, refl}
 use Rattle.std.proofs.Common.{sym, ap, ◌∙◌, ⊎_elim, arith}
-use Rattle.std.specs.List.{AllByRecursion as All}
+use Rattle.std.specs.List.{AllByRecursion}
 use Rattle.std.proofs.lemmas.Bool.{cases_lt, cond-true, cond-false, le-leb, lt-leb}
 use Rattle.measure.specs.SecondsLaws.{seconds, same_seconds}
 use Rattle.measure.specs.RiseLaws.{rise, same_rise}
@@ -57,7 +57,7 @@ fares_back l =
     cond-true _ _ _ (le-leb (four (four_bytes l.zones) 0) 65535 (omega (arith, l.fits)))
     ∙ ap Some (same_fares _ l (omega arith) (same_seconds _ _ (omega arith)))
 
-pub fares_forth : (bs : List ℕ) (l : Fares) → length bs ≡ 8 → All (λ b. b < 256) bs → fares_of bs ≡ Some l → four_bytes l.zones ++ four_bytes l.seconds.count ≡ bs
+pub fares_forth : (bs : List ℕ) (l : Fares) → length bs ≡ 8 → AllByRecursion (λ b. b < 256) bs → fares_of bs ≡ Some l → four_bytes l.zones ++ four_bytes l.seconds.count ≡ bs
 fares_forth bs l h b e = ⊎_elim
     (λ over. let never : ◌≡◌ {A = ℕ} 0 1 = cc (e, cond-false _ _ _ (lt-leb _ _ over)) in absurd (omega arith))
     (λ few.
