@@ -11,7 +11,7 @@ use Rattle.town_record.specs.declared.rule.Rule.{Rule}
 use Rattle.town.specs.declared.tables.Tables.{Tables}
 use Rattle.town.specs.Files.{seen}
 use Rattle.town.specs.Holds.{Holds, Sound, Roomy, so_far}
-use Rattle.town.specs.Index.{no_arcs, count, longer}
+use Rattle.town.specs.Index.{empty_span, count, longer}
 use Rattle.town.proofs.Growing.{sound_place, sound_arc}
 use Rattle.town.proofs.Holding.{so_far_seen, holds_place, holds_arc}
 use Rattle.town.proofs.Judged.{place_judged, arc_judged}
@@ -40,7 +40,7 @@ module _ {L : Type 0} (f : FileForm L) (limits : Limits) (t : Tables L) (s : Sou
           (omega arith, omega arith, omega arith)
 
       pub place_added : (u : Tables L) → vec_items u.ranks ≡ vec_items t.ranks ++ rank ∷ [] → vec_items u.names ≡ vec_items t.names ++ name ∷ [] →
-          vec_items u.spans ≡ vec_items t.spans ++ no_arcs ∷ [] → u.arcs ≡ t.arcs →
+          vec_items u.spans ≡ vec_items t.spans ++ empty_span ∷ [] → u.arcs ≡ t.arcs →
           ((rs : List (List ℕ)) → Holds f rs t → Faultless f limits (seen rs) r × Holds f (rs ++ r ∷ []) u) × Sound u
       place_added u ranks names spans arcs = (
         λ rs h. (good_seen rs h, holds_place f rs t h u r rank name says ranks names arcs s.named (place_judged f limits (so_far t) r good_now says.letter).0),
@@ -63,7 +63,7 @@ module _ {L : Type 0} (f : FileForm L) (limits : Limits) (t : Tables L) (s : Sou
           let n = Rattle.town.proofs.Growing.arcs_long t in
           (omega arith, omega arith, omega arith, omega arith)
 
-      pub arc_added : (u : Tables L) → vec_items u.spans ≡ set (vec_items t.spans) a.to (longer (get_or (vec_items t.spans) a.to no_arcs) (vec_len t.arcs)) →
+      pub arc_added : (u : Tables L) → vec_items u.spans ≡ set (vec_items t.spans) a.to (longer (get_or (vec_items t.spans) a.to empty_span) (vec_len t.arcs)) →
           vec_items u.arcs ≡ vec_items t.arcs ++ a ∷ [] → u.ranks ≡ t.ranks → u.names ≡ t.names →
           ((rs : List (List ℕ)) → Holds f rs t → Faultless f limits (seen rs) r × Holds f (rs ++ r ∷ []) u) × Sound u
       arc_added u spans arcs ranks names =

@@ -1,5 +1,5 @@
 -- The file of rows.
-use Rattle.std.proofs.Common.{◌≡◌, ◌+◌, ◌*◌, map, length, vec_items, vec_len, sym, ap, ◌∙◌, arith, length-append}
+use Rattle.std.proofs.Common.{◌≡◌, ℕ, ◌+◌, ◌*◌, List, ◌++◌, map, length, drop, vec_items, vec_len, sym, ap, ◌∙◌, subst, arith, length-append}
 use lib.ListN.{length-map}
 use Rattle.std.specs.List.{AllByRecursion}
 use Rattle.town_record.specs.FileForms.{FileForm}
@@ -7,7 +7,8 @@ use Rattle.town_record.specs.Parts.{arc_record}
 use Rattle.town.specs.declared.rows.Rows.{Rows}
 use Rattle.town.specs.Holds.{place_records}
 use Rattle.town.specs.RowsGraph.{rows_file, rows_records}
-use Rattle.town.proofs.Writing.{length_joined, length_place_records, records_long}
+use Rattle.town.specs.Writes.{Wrote}
+use Rattle.town.proofs.Writing.{length_joined, length_place_records, records_long, wrote_all}
 
 module _ {L : Type 0} (f : FileForm L) (r : Rows L) where
   pub as_many_names : length (vec_items r.tables.names) ≡ length (vec_items r.tables.ranks)
@@ -29,3 +30,7 @@ module _ {L : Type 0} (f : FileForm L) (r : Rows L) where
 
   pub file_long : length (rows_file f r) ≡ 16 * (vec_len r.tables.ranks + vec_len r.tables.arcs)
   file_long = length_joined (rows_records f r) all_whole ∙ ap (λ n. 16 * n) records_counted
+
+  -- all records written over the front of a buffer are the file, and what lies past it is as it was
+  pub wrote_file : (was now : List ℕ) → Wrote (rows_records f r) (vec_len r.tables.ranks + vec_len r.tables.arcs) was now → now ≡ rows_file f r ++ drop (length (rows_file f r)) was
+  wrote_file was now done = (wrote_all (rows_records f r) was now (subst (λ n. Wrote (rows_records f r) n was now) (sym records_counted) done) all_whole).0

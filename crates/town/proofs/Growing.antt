@@ -7,12 +7,12 @@ use Rattle.town_record.specs.declared.arc_row.ArcRow.{ArcRow}
 use Rattle.town_record.specs.declared.name.Name.{Name}
 use Rattle.town.specs.declared.tables.Span.{Span}
 use Rattle.town.specs.declared.tables.Tables.{Tables}
-use Rattle.town.specs.Index.{froms, tos, no_arcs, first, count, longer, Below}
+use Rattle.town.specs.Index.{froms, tos, empty_span, first, count, longer, Below}
 use Rattle.town.specs.Holds.{Sound, Empty, so_far}
 use Rattle.town.proofs.Spans.{Spanning, longer_spanning}
 
 -- a place with no arcs changes no span
-span_of_more : (spans : List Span) (w : ℕ) → get_or (spans ++ no_arcs ∷ []) w no_arcs ≡ get_or spans w no_arcs
+span_of_more : (spans : List Span) (w : ℕ) → get_or (spans ++ empty_span ∷ []) w empty_span ≡ get_or spans w empty_span
 span_of_more [] zero = refl
 span_of_more [] (suc w) = refl
 span_of_more (s ∷ spans) zero = refl
@@ -57,21 +57,21 @@ one_longer m n xs ys x e d is = omega (arith, ap length is, length_push xs x)
 
 module _ {L : Type 0} (t u : Tables L) (s : Sound t) where
   pub sound_place : (rank : ℕ) (name : Name) → vec_items u.ranks ≡ vec_items t.ranks ++ rank ∷ [] → vec_items u.names ≡ vec_items t.names ++ name ∷ [] →
-      vec_items u.spans ≡ vec_items t.spans ++ no_arcs ∷ [] → u.arcs ≡ t.arcs → Sound u
+      vec_items u.spans ≡ vec_items t.spans ++ empty_span ∷ [] → u.arcs ≡ t.arcs → Sound u
   sound_place rank name ranks names spans arcs =
       let r = one_longer (vec_len t.ranks) (vec_len u.ranks) (vec_items t.ranks) (vec_items u.ranks) rank u.ranks.ok.0 t.ranks.ok.0 ranks in
       let n = one_longer (vec_len t.names) (vec_len u.names) (vec_items t.names) (vec_items u.names) name u.names.ok.0 t.names.ok.0 names in
-      let p = one_longer (vec_len t.spans) (vec_len u.spans) (vec_items t.spans) (vec_items u.spans) no_arcs u.spans.ok.0 t.spans.ok.0 spans in
+      let p = one_longer (vec_len t.spans) (vec_len u.spans) (vec_items t.spans) (vec_items u.spans) empty_span u.spans.ok.0 t.spans.ok.0 spans in
       let a = s.named in
       let b = s.spanned in
-      let same : (w : ℕ) → get_or (vec_items t.spans) w no_arcs ≡ get_or (vec_items u.spans) w no_arcs = λ w. sym (ap (λ xs. get_or xs w no_arcs) spans ∙ span_of_more (vec_items t.spans) w) in
+      let same : (w : ℕ) → get_or (vec_items t.spans) w empty_span ≡ get_or (vec_items u.spans) w empty_span = λ w. sym (ap (λ xs. get_or xs w empty_span) spans ∙ span_of_more (vec_items t.spans) w) in
       fitting u (omega arith) (omega arith)
       (λ j h.
       let was = s.inside j (subst (λ v. j < length (froms (vec_items v))) arcs h) in
       subst (λ v. get_or (froms (vec_items v)) j 0 < vec_len u.ranks) (sym arcs) (omega arith))
       (moved same (subst (λ v. Spanning (first (vec_items t.spans)) (count (vec_items t.spans)) (λ j. get_or (tos (vec_items v)) j 0) (vec_len v)) (sym arcs) (spanning t s)))
     where
-      moved : ((w : ℕ) → get_or (vec_items t.spans) w no_arcs ≡ get_or (vec_items u.spans) w no_arcs) →
+      moved : ((w : ℕ) → get_or (vec_items t.spans) w empty_span ≡ get_or (vec_items u.spans) w empty_span) →
           Spanning (first (vec_items t.spans)) (count (vec_items t.spans)) (λ j. get_or (tos (vec_items u.arcs)) j 0) (vec_len u.arcs) →
           Spanning (first (vec_items u.spans)) (count (vec_items u.spans)) (λ j. get_or (tos (vec_items u.arcs)) j 0) (vec_len u.arcs)
       moved same g = record {
@@ -82,7 +82,7 @@ module _ {L : Type 0} (t u : Tables L) (s : Sound t) where
         rising = g.rising;
       }
 
-  pub sound_arc : (a : ArcRow L) → vec_items u.spans ≡ set (vec_items t.spans) a.to (longer (get_or (vec_items t.spans) a.to no_arcs) (vec_len t.arcs)) →
+  pub sound_arc : (a : ArcRow L) → vec_items u.spans ≡ set (vec_items t.spans) a.to (longer (get_or (vec_items t.spans) a.to empty_span) (vec_len t.arcs)) →
       vec_items u.arcs ≡ vec_items t.arcs ++ a ∷ [] → u.ranks ≡ t.ranks → u.names ≡ t.names →
       a.from < vec_len t.ranks → a.to < vec_len t.ranks → (so_far t).last_to ≤ a.to → Sound u
   sound_arc a spans arcs ranks names from to order =
@@ -98,8 +98,8 @@ module _ {L : Type 0} (t u : Tables L) (s : Sound t) where
       let more : tos (vec_items u.arcs) ≡ ts ++ a.to ∷ [] = ap tos arcs ∙ map_push (λ b. b.to) (vec_items t.arcs) a in
       let more-from : froms (vec_items u.arcs) ≡ froms (vec_items t.arcs) ++ a.from ∷ [] = ap froms arcs ∙ map_push (λ b. b.from) (vec_items t.arcs) a in
       let long : vec_len u.arcs ≡ n + 1 = one_longer n (vec_len u.arcs) (vec_items t.arcs) (vec_items u.arcs) a u.arcs.ok.0 t.arcs.ok.0 arcs in
-      let here : get_or (vec_items u.spans) a.to no_arcs ≡ longer (get_or S a.to no_arcs) n = ap (λ xs. get_or xs a.to no_arcs) spans ∙ get_or-set_same S a.to _ no_arcs in_s in
-      let else : (w : ℕ) → (w ≡ a.to → ⊥) → get_or (vec_items u.spans) w no_arcs ≡ get_or S w no_arcs = λ w d. ap (λ xs. get_or xs w no_arcs) spans ∙ get_or-set_other S a.to w _ no_arcs d in
+      let here : get_or (vec_items u.spans) a.to empty_span ≡ longer (get_or S a.to empty_span) n = ap (λ xs. get_or xs a.to empty_span) spans ∙ get_or-set_same S a.to _ empty_span in_s in
+      let else : (w : ℕ) → (w ≡ a.to → ⊥) → get_or (vec_items u.spans) w empty_span ≡ get_or S w empty_span = λ w d. ap (λ xs. get_or xs w empty_span) spans ∙ get_or-set_other S a.to w _ empty_span d in
       fitting u (omega arith) (omega arith)
       (subst (λ k. Below (froms (vec_items u.arcs)) k) (sym r)
       (subst (λ xs. Below xs (vec_len t.ranks)) (sym more-from) (below_more (froms (vec_items t.arcs)) a.from (vec_len t.ranks) s.inside from)))
@@ -123,7 +123,7 @@ sound_empty t e =
     let n : vec_len t.names ≡ 0 = t.names.ok.0 ∙ ap length e.names in
     let s : vec_len t.spans ≡ 0 = t.spans.ok.0 ∙ ap length e.spans in
     let a : vec_len t.arcs ≡ 0 = t.arcs.ok.0 ∙ ap length e.arcs in
-    let none : (w : ℕ) → no_arcs ≡ get_or (vec_items t.spans) w no_arcs = λ w. sym (ap (λ xs. get_or xs w no_arcs) e.spans) in
+    let none : (w : ℕ) → empty_span ≡ get_or (vec_items t.spans) w empty_span = λ w. sym (ap (λ xs. get_or xs w empty_span) e.spans) in
     fitting t (omega arith) (omega arith)
     (λ j h. absurd (omega (arith, h, length-map (vec_items t.arcs) (λ x. x.from), t.arcs.ok.0)))
     (record {

@@ -11,15 +11,15 @@ abbrev pub tos : {L : Type 0} → List (ArcRow L) → List ℕ
 tos arcs = map (λ a. a.to) arcs
 
 -- a span of no arcs
-abbrev pub no_arcs : Span
-no_arcs = record { first = 0; count = 0 }
+abbrev pub empty_span : Span
+empty_span = record { first = 0; count = 0 }
 
 -- where the arcs of a place begin, and how many they are
 abbrev pub first : List Span → ℕ → ℕ
-first spans w = (slice_index_or spans w no_arcs).first
+first spans w = (slice_index_or spans w empty_span).first
 
 abbrev pub count : List Span → ℕ → ℕ
-count spans w = (slice_index_or spans w no_arcs).count
+count spans w = (slice_index_or spans w empty_span).count
 
 -- every number is below n
 abbrev pub Below : List ℕ → ℕ → Type 0

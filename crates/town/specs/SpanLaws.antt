@@ -6,7 +6,7 @@ use Rattle.std.proofs.lemmas.List.{get_or_past, length-map}
 use Rattle.std.proofs.lemmas.Bool.{cond-true, cond-false, eq-eqb, ne_eqb}
 use Rattle.town_record.specs.declared.arc_row.ArcRow.{ArcRow}
 use Rattle.town.specs.declared.tables.Span.{Span}
-use Rattle.town.specs.Index.{froms, tos, no_arcs, first, count, Below, Ends, Arrive, Begun, NotPast}
+use Rattle.town.specs.Index.{froms, tos, empty_span, first, count, Below, Ends, Arrive, Begun, NotPast}
 
 -- just the arcs at positions a to a + c - 1 arrive at w
 pub record Between {L : Type 0} (arcs : List (ArcRow L)) (w a c : ℕ) : Type 0 where
@@ -54,7 +54,7 @@ module _ {L : Type 0} (spans : List Span) (arcs : List (ArcRow L)) (ends : Ends 
 
   -- none arrives at a number that is no place
   pub none_beyond : (w : ℕ) → length spans ≤ w → arriving_at w arcs ≡ []
-  none_beyond w h = kept_span w ∙ ap (λ s. take s.count (drop s.first arcs)) (get_or_past spans w no_arcs h)
+  none_beyond w h = kept_span w ∙ ap (λ s. take s.count (drop s.first arcs)) (get_or_past spans w empty_span h)
 
 -- from-places below n, arc by arc
 pub all_below : {L : Type 0} (arcs : List (ArcRow L)) (n : ℕ) → Below (froms arcs) n → AllByRecursion (λ a. a.from < n) arcs

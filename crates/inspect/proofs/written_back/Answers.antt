@@ -1,4 +1,4 @@
-use Rattle.std.proofs.Common.{◌≡◌, ◌++◌, length, ap, ◌∙◌, append-nil, arith}
+use Rattle.std.proofs.Common.{◌≡◌, ◌++◌, length, refl, ap, ◌∙◌, append-nil, arith}
 use Rattle.std.proofs.lemmas.Slice.Eq.{slice_eq-Decides}
 use Rattle.std.proofs.lemmas.List.{drop_all}
 use Rattle.inspect.proofs.written_back.Goals as goal
@@ -10,4 +10,5 @@ returns-then-is_ok c reads long =
     let out = c.args.out.now in
     let same : c.write.new.out ≡ file =
     c.write.ensures.round_trip file reads (omega arith) ∙ ap (λ t. file ++ t) (drop_all (length file) out (omega arith)) ∙ append-nil file in
-    (slice_eq-Decides Decides-eqb _ _ _ c.eq.ensures).1 same
+    let equal = (slice_eq-Decides Decides-eqb c.write.new.out file _ refl).1 same in
+    cc

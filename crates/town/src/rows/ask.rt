@@ -1,6 +1,6 @@
 //! Rows as a map, and what they keep of their places.
 ghost use Rattle.std.specs.Prelude.{◌≡◌, vec_len, slice_index_or};
-ghost use Rattle.town.specs.Index.{no_arcs};
+ghost use Rattle.town.specs.Index.{empty_span};
 ghost use Rattle.town.specs.RowsGraph.{rows_graph};
 
 use super::Rows;
@@ -13,7 +13,7 @@ use town_record::name::Name;
 impl<M> Rows<M> {
     /// The span of a place: no arcs for a number that is no place.
     fn span(&self, place: usize) -> Span
-        ensures { result ≡ slice_index_or self.now.tables.spans.items place no_arcs }
+        ensures { result ≡ slice_index_or self.now.tables.spans.items place empty_span }
     {
         if place < self.tables.spans.len() {
             self.tables.spans[place]

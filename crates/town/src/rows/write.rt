@@ -57,6 +57,7 @@ impl<M: FileMeasure> Rows<M> {
 
     /// Writes the file over the front of a buffer and gives its length; what lies past it stays.
     /// Whichever file the rows were read from, these are its bytes.
+    #[tactic(auto, using(crate::proofs::Filing::file_long))]
     pub fn write(&self, out: &mut [u8]) -> Result<usize, AtlasFault>
         ensures cases { MatchResult result
             (λ n. Clear (write_causes (length (rows_file M.FileMeasure.form self.now)) (length out.old))

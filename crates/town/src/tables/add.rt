@@ -1,7 +1,7 @@
 //! Adding what a record says to the tables.
 ghost use Rattle.std.specs.Prelude.{◌≡◌, ◌+◌, ◌<◌, ◌≤◌, [], ◌∷◌, ◌++◌, vec_len, vec_capacity, slice_index_or, slice_set};
 ghost use Rattle.town.specs.Holds.{so_far};
-ghost use Rattle.town.specs.Index.{no_arcs, count, longer};
+ghost use Rattle.town.specs.Index.{empty_span, count, longer};
 
 use super::{Span, Tables};
 use town_record::arc_row::ArcRow;
@@ -31,7 +31,7 @@ impl<M: Copy> Tables<M> {
         requires spans { vec_len self.old.spans < vec_capacity self.old.spans }
         ensures ranks { self.new.ranks.items ≡ self.old.ranks.items ++ rank ∷ [] }
         ensures names { self.new.names.items ≡ self.old.names.items ++ name ∷ [] }
-        ensures spans { self.new.spans.items ≡ self.old.spans.items ++ no_arcs ∷ [] }
+        ensures spans { self.new.spans.items ≡ self.old.spans.items ++ empty_span ∷ [] }
         ensures arcs { self.new.arcs ≡ self.old.arcs }
         ensures rank_room { vec_capacity self.new.ranks ≡ vec_capacity self.old.ranks }
         ensures name_room { vec_capacity self.new.names ≡ vec_capacity self.old.names }
@@ -48,7 +48,7 @@ impl<M: Copy> Tables<M> {
         requires room { vec_len self.old.arcs < vec_capacity self.old.arcs }
         requires few { vec_len self.old.arcs < 16384 }
         requires ends { count self.old.spans.items arc.to ≤ vec_len self.old.arcs }
-        ensures spans { self.new.spans.items ≡ slice_set self.old.spans.items arc.to (longer (slice_index_or self.old.spans.items arc.to no_arcs) (vec_len self.old.arcs)) }
+        ensures spans { self.new.spans.items ≡ slice_set self.old.spans.items arc.to (longer (slice_index_or self.old.spans.items arc.to empty_span) (vec_len self.old.arcs)) }
         ensures arcs { self.new.arcs.items ≡ self.old.arcs.items ++ arc ∷ [] }
         ensures ranks { self.new.ranks ≡ self.old.ranks }
         ensures names { self.new.names ≡ self.old.names }

@@ -9,7 +9,7 @@ pub returns-then-at-ge-MISSING : goal.returns-then-at-ge-MISSING
 returns-then-at-ge-MISSING g c =
     elim c.then-at-ge-MISSING.branch [
       | far w ↦ rw (le-ltb c.args.at missing w.if-at-ge-MISSING.true)
-      | past w ↦ rw (slice_get_past _ _ w.if-here-cells.true, lt-ltb c.args.at missing w.if-at-ge-MISSING.false)
+      | past w ↦ rw (slice_get_past c.args.cells.now c.args.at (omega (arith, w.if-here-cells.true)), lt-ltb c.args.at missing w.if-at-ge-MISSING.false)
     ]
 
 pub returns : goal.returns
