@@ -5,8 +5,8 @@ usage: python3 tools/respell.py [--list]      at the top of a checkout, once, af
 
 Words are in snake case (`how-many` becomes `how_many`, `atMost` becomes `at_most`), types and facts in camel case
 (`Empty-is-due` becomes `EmptyIsDue`). What is respelled is what a file of specs/ or proofs/ declares: definitions, lemmas,
-fields, constructors, and the local functions of a lemma. Names that Rattle makes for goals and steps, names of src/,
-strings and comments' prose stay; the edits of must-fail/ are turned along with the text that they quote.
+fields, constructors, and the local functions of a lemma. Names that Rattle makes for goals and steps, names of src/ and
+lines of comment stay.
 --list prints old and new names and writes nothing.
 """
 import collections
@@ -110,16 +110,12 @@ def main():
                 fields.add(re.match(r"^\s+(?:pub )?([^\s:]+) :", line)[1])
             elif inside and line.strip() and not line.startswith("  "):
                 inside = False
-    for path in files((".antt", ".rt", ".edit")):
+    for path in files((".antt", ".rt")):
         old = read(path)
         lines = old.split("\n")
         goals = {m[1] for m in re.finditer(r"^(?:abbrev )?pub ([^\s:]+) : goal\.", old, re.M)}
         here = {k: v for k, v in names.items() if k not in goals}
-        if path.endswith(".edit"):
-            here = {k: v for k, v in names.items() if "-" in k or k == "atMost"}
-            new = "\n".join(turn_line(line, here, fields) if re.match("(old|new): ", line) else line for line in lines)
-        else:
-            new = "\n".join(turn_line(line, here, fields) for line in lines)
+        new = "\n".join(turn_line(line, here, fields) for line in lines)
         if new != old:
             with open(path, "w", encoding="utf-8") as it:
                 it.write(new)
