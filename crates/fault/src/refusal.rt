@@ -13,9 +13,10 @@ pub enum Layer {
     Line,
 }
 
-/// A refusal as it is told.
+/// A refusal as it is told. What went wrong is an `AtlasFault`, a `FileFault` or a `LineFault`; this is what is printed of it.
 #[derive(Clone, Copy, PartialEq, Eq, Debug)]
 pub struct Refusal {
+    /// The number that docs/REFUSALS.md gives the fault. A plain number: several faults share one, and it is printed.
     pub number: u8,
     pub layer: Layer,
     /// Where: a record, a place, a value, a length; docs/REFUSALS.md says which.

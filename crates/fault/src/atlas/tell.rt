@@ -6,22 +6,22 @@ use super::AtlasFault;
 use crate::refusal::{Layer, Refusal};
 use std::fmt;
 
-impl AtlasFault {
-    /// The refusal that tells this fault.
-    pub fn refusal(self) -> Refusal
-        ensures { result ≡ atlas_refusal self }
-    {
-        let (number, at) = match self {
-            AtlasFault::RankZero(place) => (3, place as u64),
-            AtlasFault::KOutOfBounds(k) => (6, k as u64),
-            AtlasFault::SideOutOfBounds(side) => (6, side as u64),
+/// The refusal that tells an atlas fault.
+impl From<AtlasFault> for Refusal {
+    ghost from_gives = { λ fault r. r ≡ atlas_refusal fault };
+
+    fn from(value: AtlasFault) -> Refusal {
+        let (number, at) = match value {
+            AtlasFault::RankZero(place) => (3, u64::from(place)),
+            AtlasFault::KOutOfBounds(k) => (6, u64::from(k)),
+            AtlasFault::SideOutOfBounds(side) => (6, u64::from(side)),
             AtlasFault::StartsOutOfBounds(starts) => (6, starts as u64),
             AtlasFault::CellsOutOfBounds(cells) => (6, cells as u64),
             AtlasFault::TooShort(needed) => (7, needed as u64),
-            AtlasFault::TestFailed(test) => (8, test.number() as u64),
-            AtlasFault::NoSuchPlace(place) => (9, place as u64),
-            AtlasFault::NothingLeft(swept) => (10, swept as u64),
-            AtlasFault::CellsRunOut(place) => (11, place as u64),
+            AtlasFault::TestFailed(test) => (8, u64::from(test.number())),
+            AtlasFault::NoSuchPlace(place) => (9, u64::from(place)),
+            AtlasFault::NothingLeft(swept) => (10, u64::from(swept)),
+            AtlasFault::CellsRunOut(place) => (11, u64::from(place)),
         };
         Refusal {
             number,
@@ -31,11 +31,11 @@ impl AtlasFault {
     }
 }
 
+// By hand in each fault: a derived Display promises nothing of the text, and no impl can cover all faults at once.
 impl fmt::Display for AtlasFault {
     ghost output = { λ f. Some (refusal_text (atlas_refusal f)) };
 
     fn fmt<W: fmt::Write>(&self, f: &mut fmt::Formatter<W>) -> fmt::Result {
-        let refusal = (*self).refusal();
-        write!(f, "{refusal}")
+        write!(f, "{}", Refusal::from(*self))
     }
 }

@@ -6,12 +6,12 @@ use super::FileFault;
 use crate::refusal::{Layer, Refusal};
 use std::fmt;
 
-impl FileFault {
-    /// The refusal that tells this fault.
-    pub fn refusal(self) -> Refusal
-        ensures { result ≡ file_refusal self }
-    {
-        let (number, at) = match self {
+/// The refusal that tells a file fault.
+impl From<FileFault> for Refusal {
+    ghost from_gives = { λ fault r. r ≡ file_refusal fault };
+
+    fn from(value: FileFault) -> Refusal {
+        let (number, at) = match value {
             FileFault::PartialRecord(whole) => (1, whole),
             FileFault::BadByte(record) => (2, record),
             FileFault::BadValue(record) => (3, record),
@@ -26,11 +26,11 @@ impl FileFault {
     }
 }
 
+// By hand in each fault: a derived Display promises nothing of the text, and no impl can cover all faults at once.
 impl fmt::Display for FileFault {
     ghost output = { λ f. Some (refusal_text (file_refusal f)) };
 
     fn fmt<W: fmt::Write>(&self, f: &mut fmt::Formatter<W>) -> fmt::Result {
-        let refusal = (*self).refusal();
-        write!(f, "{refusal}")
+        write!(f, "{}", Refusal::from(*self))
     }
 }

@@ -8,18 +8,18 @@ use crate::atlas::AtlasFault;
 use crate::refusal::{Layer, Refusal};
 use std::fmt;
 
-impl LineFault {
-    /// The refusal that tells this fault; an atlas fault tells its own.
-    pub fn refusal(self) -> Refusal
-        ensures { result ≡ line_refusal self }
-    {
-        match self {
+/// The refusal that tells a line fault; an atlas fault tells its own.
+impl From<LineFault> for Refusal {
+    ghost from_gives = { λ fault r. r ≡ line_refusal fault };
+
+    fn from(value: LineFault) -> Refusal {
+        match value {
             LineFault::NoForm(shared) => Refusal {
                 number: 12,
                 layer: Layer::Line,
                 at: shared as u64,
             },
-            LineFault::Atlas(fault) => fault.refusal(),
+            LineFault::Atlas(fault) => Refusal::from(fault),
         }
     }
 }
@@ -33,11 +33,11 @@ impl From<AtlasFault> for LineFault {
     }
 }
 
+// By hand in each fault: a derived Display promises nothing of the text, and no impl can cover all faults at once.
 impl fmt::Display for LineFault {
     ghost output = { λ f. Some (refusal_text (line_refusal f)) };
 
     fn fmt<W: fmt::Write>(&self, f: &mut fmt::Formatter<W>) -> fmt::Result {
-        let refusal = (*self).refusal();
-        write!(f, "{refusal}")
+        write!(f, "{}", Refusal::from(*self))
     }
 }

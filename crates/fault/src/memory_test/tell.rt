@@ -9,12 +9,6 @@ impl MemoryTest {
     pub fn number(self) -> u8
         ensures { result ≡ test_number self }
     {
-        match self {
-            MemoryTest::Order => 1,
-            MemoryTest::Links => 2,
-            MemoryTest::Positions => 3,
-            MemoryTest::Counts => 4,
-            MemoryTest::Places => 5,
-        }
+        self as u8
     }
 }

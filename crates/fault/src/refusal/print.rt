@@ -21,9 +21,6 @@ impl fmt::Display for Refusal {
     ghost output = { λ r. Some (refusal_text r) };
 
     fn fmt<W: fmt::Write>(&self, f: &mut fmt::Formatter<W>) -> fmt::Result {
-        let number = self.number;
-        let layer = self.layer;
-        let at = self.at;
-        write!(f, "{number} {layer} {at}")
+        write!(f, "{} {} {}", self.number, self.layer, self.at)
     }
 }
