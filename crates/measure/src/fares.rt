@@ -5,8 +5,8 @@ use crate::seconds::Seconds;
 
 pub mod measured;
 
-/// A fare: the zones paid for, and the time taken.
-#[derive(Clone, Copy)]
+/// A fare: the zones paid for, and the time taken. The order of the fields is that of the comparison: zones first.
+#[derive(Clone, Copy, PartialEq, Eq, PartialOrd, Ord, Debug)]
 pub struct Fares {
     zones: u16,
     seconds: Seconds,

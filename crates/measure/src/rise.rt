@@ -4,7 +4,7 @@ ghost use Rattle.std.specs.Prelude.{◌≡◌, ◌^◌, ◌<◌};
 pub mod measured;
 
 /// The height of the highest kerb on a way.
-#[derive(Clone, Copy)]
+#[derive(Clone, Copy, PartialEq, Eq, PartialOrd, Ord, Debug)]
 pub struct Rise {
     millimetres: u16,
     ghost fits: { millimetres < 2 ^ 16 },

@@ -3,8 +3,8 @@ ghost use Rattle.std.specs.Prelude.{◌≡◌, ◌^◌, ◌<◌};
 
 pub mod measured;
 
-/// A length in seconds.
-#[derive(Clone, Copy)]
+/// A length in seconds. `Rise` is a type of its own: it has another width, another join, and its unit is the name of what it is asked for.
+#[derive(Clone, Copy, PartialEq, Eq, PartialOrd, Ord, Debug)]
 pub struct Seconds {
     count: u32,
     ghost fits: { count < 2 ^ 32 },

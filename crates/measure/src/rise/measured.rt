@@ -1,16 +1,8 @@
 //! Rise as a measure: of two, the larger.
-ghost use Rattle.std.specs.Prelude.{◌≡◌, max};
 ghost use Rattle.measure.specs.RiseLaws.{rise_laws, rise_rows};
 
 use super::Rise;
 use crate::Measure;
-
-/// The larger of two.
-fn larger(a: u16, b: u16) -> u16
-    ensures { result ≡ max a b }
-{
-    a.max(b)
-}
 
 impl Measure for Rise {
     type Row = u16;
@@ -24,11 +16,11 @@ impl Measure for Rise {
     }
 
     fn join(self, other: Rise) -> Rise {
-        Rise::new(larger(self.millimetres(), other.millimetres()))
+        self.max(other)
     }
 
     fn at_most(self, other: Rise) -> bool {
-        self.millimetres() <= other.millimetres()
+        self <= other
     }
 
     fn read(row: u16) -> Rise {

@@ -1,6 +1,0 @@
-use Rattle.std.proofs.Common.{arith}
-use Rattle.measure.specs.RiseLaws.{same_rise}
-use Rattle.measure.proofs.rise.measured.RiseMeasure.read.Goals as goal
-
-pub returns : goal.returns
-returns c = same_rise _ _ (omega (arith, c.new.ensures))
