@@ -1,38 +1,17 @@
 -- Each step of a search keeps what holds between its steps.
-use Rattle.std.proofs.Common.{◌≡◌, ℕ, ◌<◌, T, ◌⊎◌, List, [], ◌∷◌, ◌++◌, sym, refl, ap, ◌∙◌, subst, inl, inr, ⊎_elim}
+use Rattle.std.proofs.Common.{◌≡◌, ℕ, T, ◌⊎◌, List, [], ◌∷◌, ◌++◌, sym, refl, ap, ◌∙◌, subst, inl, inr, ⊎_elim}
 use native.Mathlib.Decide.{ℕ_discrete}
 use Rattle.graph.specs.Members.{In}
 use Rattle.graph.specs.Ways.{HasWay}
 use Rattle.graph.specs.declared.arc.Arc.{Arc}
 use Rattle.graph.proofs.Lengths.{at_most_same, at_most_equal, at_most_after}
 use Rattle.bottom_k.specs.Sketches.{Setting, Entry}
-use Rattle.bottom_k.specs.Search.{Mark, unseen, waiting, settled, TurnsBack, Finished}
+use Rattle.bottom_k.specs.Search.{Mark, waiting, settled, TurnsBack, Finished}
 use Rattle.bottom_k.specs.Steps.{Carries, CarriesWithin, with_mark, relaxed, NoneNearer, Searching, Following}
 use Rattle.bottom_k.proofs.Members.{in_cases}
-use Rattle.bottom_k.proofs.Marks.{not_both, not_unseen, waiting_carries, settled_carries, mark_cases, relaxed_within, relaxed_less, relaxed_waiting, relaxed_settled, relaxed_carries}
+use Rattle.bottom_k.proofs.Marks.{not_both, waiting_carries, settled_carries, mark_cases, relaxed_within, relaxed_less, relaxed_waiting, relaxed_settled, relaxed_carries}
 
 module _ {L : Type 0} (s : Setting L) (sketch : ℕ → List (Entry L)) (u : ℕ) where
-  pub search_begins : u < s.map.places → Searching s sketch u (with_mark (λ _. unseen) u (waiting s.measure.zero))
-  search_begins inside = record {
-    begun = inl (⊎_elim (λ h. h.1) (λ h. absurd (h.0 refl)) (cases u));
-    by_a_way = λ v d carries. ⊎_elim
-        (λ h. let z = waiting_carries (start v) s.measure.zero d h.1 carries in
-        ([], (h.0, subst (λ x. x < s.map.places) (sym h.0) inside), z))
-        (λ h. not_unseen d (subst (λ k. Carries k d) h.1 carries))
-        (cases v);
-    in_order = λ v w d e h j. none v d h;
-    followed = λ v d h open-still a i. none v d h;
-  }
-    where
-      start : ℕ → Mark L
-      start = with_mark (λ _. unseen) u (waiting s.measure.zero)
-
-      cases : (v : ℕ) → ((v ≡ u) × (start v ≡ waiting s.measure.zero)) ⊎ ((¬ (v ≡ u)) × (start v ≡ unseen))
-      cases v = mark_cases (λ _. unseen) u (waiting s.measure.zero) v
-
-      none : {A : Type 0} (v : ℕ) (d : L) → start v ≡ settled d → A
-      none v d h = ⊎_elim (λ c. not_both (start v) _ d c.1 h) (λ c. not_unseen d (inr (sym c.1 ∙ h))) (cases v)
-
   pub search_ends : (mark : ℕ → Mark L) → Searching s sketch u mark → ((v : ℕ) (d : L) → ¬ (mark v ≡ waiting d)) → Finished s sketch u mark
   search_ends mark now none = record {
     begun = ⊎_elim (λ h. absurd (none u _ h)) (λ h. h) now.begun;

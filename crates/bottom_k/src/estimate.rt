@@ -9,10 +9,8 @@ pub fn estimate(k: u32, rank: u32) -> u64
     ensures quotient { result ≡ estimated k rank }
     ensures down { 1 ≤ rank → (result * rank ≤ (k - 1) * 4294967296) × ((k - 1) * 4294967296 < (result + 1) * rank) }
 {
-    if rank == 0 {
-        return 0;
-    }
-    k.saturating_sub(1) as u64 * 4_294_967_296 / rank as u64
+    let spread = u64::from(k.saturating_sub(1)) * 4_294_967_296;
+    spread.checked_div(u64::from(rank)).unwrap_or(0)
 }
 
 /// The figure of a sample of so many places, the last of which has the rank given.
@@ -30,8 +28,6 @@ pub fn figure(k: u32, sampled: usize, last_rank: u32) -> Figure
 pub fn figure_of_ranks(k: u32, ranks: &[u32]) -> Figure
     ensures { result ≡ figure_of_ranks k ranks.now }
 {
-    match ranks.last() {
-        Some(rank) => figure(k, ranks.len(), *rank),
-        None => figure(k, 0, 0),
-    }
+    let last_rank = ranks.last().copied().unwrap_or(0);
+    figure(k, ranks.len(), last_rank)
 }

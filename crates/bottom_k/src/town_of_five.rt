@@ -2,8 +2,6 @@
 ghost use Rattle.bottom_k.specs.TownOfFive.{TownOfFive};
 
 /// Every case of the table holds.
-pub fn town_of_five() -> u8
+pub fn town_of_five()
     ensures { TownOfFive }
-{
-    0
-}
+{}
