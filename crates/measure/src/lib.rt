@@ -11,7 +11,7 @@ pub mod seconds;
 
 /// A measure: lengths with a zero, a join and a comparison, and how a length stands in a plain table row.
 ///
-/// The comparison and the ways to a row and back stand here, and not as `Ord` and `From`: the laws speak of the comparison together with the join, and of both ways together.
+/// The zero, the comparison and the ways to a row and back stand here, and not as `Default`, `Ord` and `From`: the laws speak of zero and comparison together with the join, and of both ways together.
 pub trait Measure: Copy {
     /// What a table holds in place of a length.
     type Row: Copy;
