@@ -179,17 +179,17 @@ fn written_back(rt: HostRuntime) -> Result<(), Fail> {
 #[test]
 fn told(rt: HostRuntime) -> Result<(), Fail> {
     let of_atlas = ToldRefusal {
-        refusal: LineFault::from(AtlasFault::KOutOfBounds(65)).refusal(),
+        refusal: LineFault::from(AtlasFault::KOutOfBounds(65)).into(),
         line: 7,
     };
     assert!(rt; of_atlas.to_string(rt.alloc())?.as_str() == "! 6 atlas 65 at line 7");
     let of_line = ToldRefusal {
-        refusal: LineFault::NoForm(3).refusal(),
+        refusal: LineFault::NoForm(3).into(),
         line: 12,
     };
     assert!(rt; of_line.to_string(rt.alloc())?.as_str() == "! 12 line 3 at line 12");
     let of_file = ToldRefusal {
-        refusal: FileFault::OutOfRoom(0).refusal(),
+        refusal: FileFault::OutOfRoom(0).into(),
         line: 0,
     };
     assert!(rt; of_file.to_string(rt.alloc())?.as_str() == "! 5 file 0 at line 0");
