@@ -1,13 +1,15 @@
 -- One more place taken out, and what it makes of those before it.
-use Rattle.std.proofs.Common.{◌≡◌, ℕ, ◌+◌, ◌<◌, true, false, ◌⊎◌, List, length, get_or, set, is_some, Some, None, Option, sym, refl, ap, ◌∙◌, subst, inl, inr, ⊎_elim, arith}
+use Rattle.std.proofs.Common.{◌≡◌, ℕ, ◌+◌, ◌<◌, ◌≤◌, true, false, ◌⊎◌, List, length, get_or, set, is_some, Some, None, Option, sym, refl, ap, ◌∙◌, subst, inl, inr, ⊎_elim, arith}
 use Rattle.std.proofs.lemmas.List.{get_or-set_same, get_or-set_other}
 use Rattle.std.proofs.lemmas.Bool.{cases_eq, cases_lt}
 use Rattle.std.proofs.lemmas.Bool.Decides.{eqb_tells}
 use Rattle.measure.specs.Orders.{TotalOrder}
 use Rattle.heap.specs.declared.indexed_heap.IndexedHeap.{IndexedHeap}
-use Rattle.heap.specs.Changes.{Least, With}
+use Rattle.heap.specs.declared.key.Key.{Ghosts}
+use Rattle.heap.specs.Changes.{Least, Removed, With}
 use Rattle.heap.specs.Content.{content, size}
 use Rattle.heap.specs.Drained.{Drained, HandsOutAll, Rising}
+use Rattle.heap.proofs.Contents.{none_from_size}
 use Rattle.heap.proofs.Steps.{reflexive}
 
 module _ {K : Type 0} where
@@ -136,14 +138,21 @@ module _ {K : Type 0} where
           (last_or_earlier i l);
     }
 
--- a heap that is as it was has as much left
-module _ {K : Type 0} (first middle last : IndexedHeap K) (places : List ℕ) (count : ℕ) (same : last ≡ middle) where
-  pub left_kept : size middle + count ≡ size first → size last + count ≡ size first
-  left_kept e = ap (λ h. size h + count) same ∙ e
+module _ {K : Type 0} {bound : Ghosts K} (o : TotalOrder K) (before middle after : IndexedHeap K bound) (places : List ℕ) (count : ℕ) where
+  -- one more place is taken out and written behind the others
+  pub drained_next : (place : ℕ) (key : K) → count < length places → Removed o middle place key after
+      → Drained (content before) places count (content middle) → Drained (content before) (set places count place) (count + 1) (content after)
+  drained_next place key room r = drained_more (content before) (content middle) (content after) places count place key room r.held r.rest
 
-  pub drained_kept : Drained (content first) places count (content middle) → Drained (content first) places count (content last)
-  drained_kept d = subst (λ h. Drained (content first) places count (content h)) (sym same) d
+  pub rising_next : (place : ℕ) (key : K) → count < length places → Removed o middle place key after
+      → Drained (content before) places count (content middle) → Rising o (content before) places count (content middle)
+      → Rising o (content before) (set places count place) (count + 1) (content after)
+  rising_next place key room r d = rising_more (content before) (content middle) (content after) places count place key room r.held r.rest d o r.least
 
-  pub rising_kept : (o : TotalOrder K) → Rising o (content first) places count (content middle)
-      → Rising o (content first) places count (content last)
-  rising_kept o r = subst (λ h. Rising o (content first) places count (content h)) (sym same) r
+-- as many places as were held are all that were held
+module _ {K : Type 0} {bound : Ghosts K} (before after : IndexedHeap K bound) (places : List ℕ) (count : ℕ) where
+  pub all_handed_out : (n : ℕ) → Drained (content before) places count (content after) → size after + count ≡ size before
+      → count ≡ n → size before ≤ n → HandsOutAll (content before) places n
+  all_handed_out n d left e fits =
+      subst (HandsOutAll (content before) places) e
+      (all_from_none (content before) (content after) places count d (none_from_size after (omega arith)))

@@ -1,9 +1,9 @@
 //! Mixed operations on a heap of ranks and places, as many as one wants to time.
 #![tactic(auto)]
 
-ghost use Rattle.std.specs.Prelude.{◌≡◌, ◌+◌, ◌*◌, ◌%◌, ◌^◌};
-ghost use Rattle.heap.specs.Content.{Ordered};
-ghost use Rattle.heap.specs.Keys.{rank_place_order};
+ghost use Rattle.std.specs.Prelude.{◌≡◌, ◌+◌, ◌*◌, ◌%◌, ◌^◌, OnOk, OnErr, Some};
+ghost use Rattle.heap.specs.Changes.{With};
+ghost use Rattle.heap.specs.Content.{content};
 
 use heap::indexed_heap::IndexedHeap;
 use heap::key::rank_place::RankPlace;
@@ -25,7 +25,8 @@ fn next(seed: u32) -> u32
 
 /// Lets a place wait with a key, or lowers its key if it waits with a higher one.
 fn offer(heap: &mut IndexedHeap<RankPlace>, place: u16, key: RankPlace) -> Result<(), HeapRefusal>
-    ensures { Ordered rank_place_order heap.old → Ordered rank_place_order heap.new }
+    ensures offered { OnOk result (With (content heap.old) place (Some key) (content heap.new)) }
+    ensures refused { OnErr result (heap.new ≡ heap.old) }
 {
     match heap.push(place, key) {
         Err(HeapRefusal::Waiting) => heap.lower(place, key),
@@ -34,9 +35,7 @@ fn offer(heap: &mut IndexedHeap<RankPlace>, place: u16, key: RankPlace) -> Resul
 }
 
 /// Makes so many operations, of which six in sixteen take the least, and gives a sum over what was taken.
-fn mixed(heap: &mut IndexedHeap<RankPlace>, operations: u32) -> u32
-    ensures { Ordered rank_place_order heap.old → Ordered rank_place_order heap.new }
-{
+fn mixed(heap: &mut IndexedHeap<RankPlace>, operations: u32) -> u32 {
     let mut seed = 1;
     let mut sum: u32 = 0;
     for _ in 0..operations {

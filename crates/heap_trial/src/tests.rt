@@ -10,10 +10,8 @@ use std::process::Abort;
 /// Lets places 0, 1, .. wait with these ranks, and drains them.
 fn drawn(ranks: &[u32], places: &mut [u16]) -> usize {
     let mut heap = IndexedHeap::new();
-    let mut place = 0;
-    for rank in ranks {
+    for (place, rank) in (0u16..).zip(ranks) {
         let _ = heap.push(place, RankPlace { rank: *rank, place });
-        place = place.wrapping_add(1);
     }
     heap.drain(places)
 }
@@ -52,10 +50,8 @@ fn full_heap(rt: HostRuntime) {
     let mut places = [0; PLACES];
     assert_eq!(rt; heap.drain(&mut places), 4096);
     assert!(rt; heap.is_empty());
-    let mut rank = 0;
-    for place in places {
+    for (rank, place) in (0u32..).zip(places) {
         assert_eq!(rt; rank_of(place), rank);
-        rank = rank.wrapping_add(1);
     }
 }
 
@@ -67,10 +63,8 @@ fn rise(millimetres: u16) -> LengthKey<Rise> {
 
 /// The place and the millimetres of the least.
 fn taken(heap: &mut IndexedHeap<LengthKey<Rise>>) -> Option<(u16, u16)> {
-    match heap.take_least() {
-        Some(least) => Some((least.0, least.1.length.millimetres())),
-        None => None,
-    }
+    heap.take_least()
+        .map(|(place, key)| (place, key.length.millimetres()))
 }
 
 #[test]

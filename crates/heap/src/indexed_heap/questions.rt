@@ -1,6 +1,6 @@
 //! The empty heap, and what a heap answers about the places that wait.
 ghost use Rattle.std.specs.Prelude.{◌≡◌, ℕ, is_some, None, ◌==◌};
-ghost use Rattle.heap.specs.Content.{Ordered, content, size};
+ghost use Rattle.heap.specs.Content.{content, size};
 
 use super::IndexedHeap;
 use crate::PLACES;
@@ -10,8 +10,7 @@ use crate::table::Table;
 impl<K: Key> IndexedHeap<K> {
     /// The heap in which no place waits.
     pub fn new() -> IndexedHeap<K>
-        ensures empty { (p : ℕ) → content result p ≡ None }
-        ensures ordered { Ordered K.Key.order result }
+        ensures { (p : ℕ) → content result p ≡ None }
     {
         let least = K::least();
         IndexedHeap {

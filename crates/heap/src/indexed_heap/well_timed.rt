@@ -3,7 +3,7 @@
 //! Each takes the table out, changes it and writes it back whole.
 ghost use Rattle.std.specs.Prelude.{◌≡◌, ◌+◌, ◌<◌, false, T, is_some, IsSomeAnd, Some};
 ghost use Rattle.heap.specs.Changes.{Removed, With};
-ghost use Rattle.heap.specs.Content.{Ordered, content, size};
+ghost use Rattle.heap.specs.Content.{content, size};
 
 use super::IndexedHeap;
 use crate::key::Key;
@@ -16,7 +16,6 @@ impl<K: Key> IndexedHeap<K> {
         requires absent { is_some (content self.old place) ≡ false }
         ensures with { With (content self.old) place (Some key) (content self.new) }
         ensures size { size self.new ≡ size self.old + 1 }
-        ensures ordered { Ordered K.Key.order self.old → Ordered K.Key.order self.new }
     {
         self.keys[place as usize] = key;
         let mut table = self.table;
@@ -32,7 +31,6 @@ impl<K: Key> IndexedHeap<K> {
         requires lower { IsSomeAnd (content self.old place) (λ old. T (K.Key.order.at_most key old)) }
         ensures with { With (content self.old) place (Some key) (content self.new) }
         ensures size { size self.new ≡ size self.old }
-        ensures ordered { Ordered K.Key.order self.old → Ordered K.Key.order self.new }
     {
         self.keys[place as usize] = key;
         let mut table = self.table;
@@ -44,8 +42,7 @@ impl<K: Key> IndexedHeap<K> {
     /// Takes out the place in the first slot, where some place waits.
     pub(super) fn take_first(&mut self) -> (u16, K)
         requires { 0 < self.old.table.len }
-        ensures removed { Removed K.Key.order self.old result.0 result.1 self.new }
-        ensures ordered { Ordered K.Key.order self.old → Ordered K.Key.order self.new }
+        ensures { Removed K.Key.order self.old result.0 result.1 self.new }
     {
         let mut table = self.table;
         let last = table.len() - 1;

@@ -4,7 +4,7 @@ ghost use Rattle.heap.specs.Keys.{rank_place_order};
 use crate::key::Key;
 
 /// A rank with its place: lower ranks come first, and among equal ranks lower places.
-#[derive(Clone, Copy)]
+#[derive(Clone, Copy, PartialEq, Eq, PartialOrd, Ord, Debug)]
 pub struct RankPlace {
     pub rank: u32,
     pub place: u16,
@@ -18,10 +18,6 @@ impl Key for RankPlace {
     }
 
     fn at_most(self, other: RankPlace) -> bool {
-        if self.rank == other.rank {
-            self.place <= other.place
-        } else {
-            self.rank < other.rank
-        }
+        self <= other
     }
 }

@@ -1,5 +1,4 @@
 use Rattle.std.proofs.Common.{refl, ◌∙◌, arith}
-use Rattle.heap.specs.Content.{Ordered}
 use Rattle.heap.proofs.Contents.{absent_from_not, append_above, one_more, with_written}
 use Rattle.heap.proofs.indexed_heap.IndexedHeap.insert.Goals as goal
 
@@ -7,7 +6,6 @@ pub append-requires : goal.append-requires
 append-requires g c = (c.requires.known, absent_from_not c.args.self.now c.args.place c.requires.absent)
 
 pub returns : goal.returns
-unfolding Ordered
 returns g c =
     let h = c.args.self.now in
     let place = c.args.place in
@@ -16,8 +14,12 @@ returns g c =
       with = with_written h _ place c.args.key c.requires.known refl
           (λ p. c.sift_up.ensures.waiting p ∙ c.append.ensures.waiting p);
       size = one_more h _ (c.sift_up.ensures.len ∙ c.append.ensures.len);
-      ordered = λ ordered i pos lt.
-          c.sift_up.ensures.heaped
-          (append_above g.K.Key.order h place c.args.key _ _ _ absent c.append.ensures.slots c.append.ensures.len (omega arith) ordered)
-          i pos (omega arith);
     }
+
+pub invariant_of-self-clause-ordered : goal.invariant_of-self-clause-ordered
+invariant_of-self-clause-ordered g c i pos lt =
+    let h = c.args.self.now in
+    let absent = absent_from_not h c.args.place c.requires.absent in
+    c.sift_up.ensures.heaped
+    (append_above h c.args.place c.args.key _ _ _ absent c.append.ensures.slots c.append.ensures.len (omega arith))
+    i pos (omega arith)

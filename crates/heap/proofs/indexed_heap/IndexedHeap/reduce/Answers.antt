@@ -1,6 +1,5 @@
 use Rattle.std.proofs.Common.{refl, arith, rules}
 use Rattle.std.proofs.lemmas.Bool.Decides.{eqb_tells}
-use Rattle.heap.specs.Content.{Ordered}
 use Rattle.heap.proofs.Contents.{lower_above, same_size, waits_from_by, with_written}
 use Rattle.heap.proofs.Pairs.{waits_placed}
 use Rattle.heap.proofs.indexed_heap.IndexedHeap.reduce.Goals as goal
@@ -17,7 +16,6 @@ sift_up-requires g c =
     (search rules, omega (arith, c.slot-slot.ensures))
 
 pub returns : goal.returns
-unfolding Ordered
 returns g c =
     let h = c.args.self.now in
     let place = c.args.place in
@@ -26,7 +24,9 @@ returns g c =
       with = with_written h _ place c.args.key c.requires.known refl
           (λ p. let a = c.sift_up.ensures.waiting p in let b = eqb_tells p place in grind arith);
       size = same_size h _ c.sift_up.ensures.len;
-      ordered = λ ordered i pos lt.
-          c.sift_up.ensures.heaped
-          (lower_above g.K.Key.order h place _ c.args.key c.requires.lower c.slot-slot.ensures ordered) i pos (omega arith);
     }
+
+pub invariant_of-self-clause-ordered : goal.invariant_of-self-clause-ordered
+invariant_of-self-clause-ordered g c i pos lt =
+    c.sift_up.ensures.heaped
+    (lower_above c.args.self.now c.args.place _ c.args.key c.requires.lower c.slot-slot.ensures) i pos (omega arith)
