@@ -9,6 +9,7 @@ use crate::table::Table;
 
 impl<K: Key> IndexedHeap<K> {
     /// The heap in which no place waits.
+    #[tactic(auto, unfolding(crate::specs::Content::content))]
     pub fn new() -> IndexedHeap<K>
         ensures { (p : ℕ) → content result p ≡ None }
     {
@@ -20,6 +21,7 @@ impl<K: Key> IndexedHeap<K> {
     }
 
     /// How many places wait.
+    #[tactic(auto, using(crate::proofs::Contents::size_is_len))]
     pub fn len(&self) -> usize
         ensures { result ≡ size self.now }
     {
@@ -34,6 +36,7 @@ impl<K: Key> IndexedHeap<K> {
     }
 
     /// The key that a place waits with: none exactly if it does not wait.
+    #[tactic(auto, unfolding(crate::specs::Content::content))]
     pub fn key_of(&self, place: u16) -> Option<K>
         ensures { result ≡ content self.now place }
     {
