@@ -7,7 +7,6 @@ ghost use Rattle.heap.specs.Content.{content, size};
 
 use super::IndexedHeap;
 use crate::key::Key;
-use crate::sift::{sift_down, sift_up};
 
 impl<K: Key> IndexedHeap<K> {
     /// Lets a place wait that does not.
@@ -21,7 +20,7 @@ impl<K: Key> IndexedHeap<K> {
         let mut table = self.table;
         table.append(place);
         let last = table.len() - 1;
-        sift_up(&mut table, &self.keys, last);
+        table.sift_up(&self.keys, last);
         self.table = table;
     }
 
@@ -35,7 +34,7 @@ impl<K: Key> IndexedHeap<K> {
         self.keys[place as usize] = key;
         let mut table = self.table;
         let slot = table.slot(place) as usize;
-        sift_up(&mut table, &self.keys, slot);
+        table.sift_up(&self.keys, slot);
         self.table = table;
     }
 
@@ -48,7 +47,7 @@ impl<K: Key> IndexedHeap<K> {
         let last = table.len() - 1;
         table.swap(0, last);
         let place = table.remove_last();
-        sift_down(&mut table, &self.keys);
+        table.sift_down(&self.keys);
         self.table = table;
         (place, self.keys[place as usize])
     }

@@ -2,12 +2,12 @@ use Rattle.std.proofs.Common.{◌≡◌, true, false, T, sym, ◌∙◌, subst, 
 use Rattle.heap.specs.Heaped.{key_in}
 use Rattle.heap.proofs.Pairs.{keys_swapped}
 use Rattle.heap.proofs.Steps.{turned, down_step, down_done}
-use Rattle.heap.proofs.sift.sift_down.Goals as goal
+use Rattle.heap.proofs.table.Table.sift_down.Goals as goal
 
 pub returns-then-at_most : goal.returns-then-at_most
 returns-then-at_most g c =
     let o = g.K.Key.order in
-    let t = c.loop-at.table in
+    let t = c.loop-at.self in
     let at = c.loop-at.at in
     let child = c.least_below-child.result in
     let b = c.least_below-child.ensures.slot in
@@ -24,7 +24,7 @@ returns-then-at_most g c =
 pub loop-at-preserved : goal.loop-at-preserved
 loop-at-preserved g c =
     let o = g.K.Key.order in
-    let t = c.loop-at.table in
+    let t = c.loop-at.self in
     let at = c.loop-at.at in
     let child = c.least_below-child.result in
     let before = key_in o c.args.keys.now t.slots in

@@ -2,12 +2,12 @@ use Rattle.std.proofs.Common.{◌≡◌, false, sym, ◌∙◌, arith}
 use Rattle.heap.specs.Heaped.{above, key_in}
 use Rattle.heap.proofs.Pairs.{keys_swapped}
 use Rattle.heap.proofs.Steps.{turned, up_step}
-use Rattle.heap.proofs.sift.sift_up.Goals as goal
+use Rattle.heap.proofs.table.Table.sift_up.Goals as goal
 
 pub loop-at-preserved : goal.loop-at-preserved
 loop-at-preserved g c =
     let o = g.K.Key.order in
-    let t = c.loop-at.table in
+    let t = c.loop-at.self in
     let at = c.loop-at.at in
     let before = key_in o c.args.keys.now t.slots in
     let after = key_in o c.args.keys.now c.swap.new.self.slots in
