@@ -2,7 +2,7 @@
 use Rattle.std.proofs.Common.{◌≡◌, ℕ, zero, suc, ◌+◌, ◌<◌, ◌≤◌, true, false, cond, eqb, ◌⊎◌, List, length, get_or, set, replicate, ap, ◌∙◌, inl, inr, ⊎_elim, suc-le-suc, zero-le, arith, length-set}
 use Rattle.std.proofs.lemmas.List.Edits.{Swapped}
 use Rattle.std.proofs.lemmas.List.{get_or-set_same, get_or-set_other, get_or-replicate, get_or_past, length-replicate}
-use Rattle.std.proofs.lemmas.Bool.{cases_eq, cases_lt}
+use Rattle.std.proofs.lemmas.Bool.{cases_eq, cases_lt, eqb-true, not-false}
 use Rattle.std.proofs.lemmas.Bool.Decides.{eqb_tells}
 use Rattle.heap.specs.declared.table.Table.{Table}
 use Rattle.heap.specs.Heaped.{key_in}
@@ -66,10 +66,15 @@ module _ (t : Table) where
       let e = eqb_tells (mark t.positions (get_or t.slots i 0)) 4096 in
       grind arith
 
-module _ (t : Table) (place : ℕ) (lp : place < 4096) (absent : mark t.positions place ≡ 4096) where
+-- the mark of a place that stands in no slot
+mark_absent : (positions : List ℕ) (p : ℕ) → waits positions p ≡ false → mark positions p ≡ 4096
+mark_absent positions p w = eqb-true _ _ (not-false _ w)
+
+module _ (t : Table) (place : ℕ) (lp : place < 4096) (absent : waits t.positions place ≡ false) where
   -- there is a slot left for an absent place
   pub slot_left : t.len < 4096
   slot_left =
+      let a = mark_absent t.positions place absent in
       pigeon 4096 (suc t.len) (λ i. cond (eqb i t.len) place (get_or t.slots i 0))
       (λ i h. let f = t.filled i in let e = eqb_tells i t.len in grind arith)
       (λ i j h k e.
@@ -82,6 +87,7 @@ module _ (t : Table) (place : ℕ) (lp : place < 4096) (absent : mark t.position
 
   pub append_filled : Filled (set t.slots t.len place) (set t.positions place t.len) (t.len + 1)
   append_filled k lk =
+      let a = mark_absent t.positions place absent in
       let n = slot_left in
       let f = t.filled k in
       let s = at_set t.slots t.len place k 0 (omega arith) in
@@ -90,6 +96,7 @@ module _ (t : Table) (place : ℕ) (lp : place < 4096) (absent : mark t.position
 
   pub append_placed : Placed (set t.slots t.len place) (set t.positions place t.len) (t.len + 1)
   append_placed p h =
+      let a = mark_absent t.positions place absent in
       let n = slot_left in
       let f = t.placed p in
       let q = at_set t.positions place t.len p 4096 (omega arith) in

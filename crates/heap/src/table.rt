@@ -53,6 +53,7 @@ impl Table {
     }
 
     /// Whether a place stands in some slot.
+    #[tactic(auto, using(std::proofs::lemmas::List::get_or_default))]
     pub(crate) fn contains(&self, place: u16) -> bool
         requires { place < 4096 }
         ensures { result ≡ waits self.now.positions place }
@@ -61,6 +62,7 @@ impl Table {
     }
 
     /// The slot of a place that stands in one.
+    #[tactic(auto, using(std::proofs::lemmas::List::get_or_default))]
     pub(crate) fn slot(&self, place: u16) -> u16
         requires { (place < 4096) × (waits self.now.positions place ≡ true) }
         ensures { result ≡ mark self.now.positions place }
@@ -84,6 +86,7 @@ impl Table {
     }
 
     /// Puts an absent place into the slot past the last.
+    #[tactic(auto, using(crate::proofs::Pairs::slot_left))]
     pub(crate) fn append(&mut self, place: u16)
         requires { (place < 4096) × (waits self.old.positions place ≡ false) }
         ensures len { self.new.len ≡ self.old.len + 1 }

@@ -41,10 +41,11 @@ impl<K: Key> IndexedHeap<K> {
     }
 
     /// Takes out a place with the least key: none exactly if no place waits.
+    #[tactic(auto, using(crate::proofs::Contents::none_from_size, crate::proofs::Contents::size_is_len))]
     pub fn take_least(&mut self) -> Option<(u16, K)>
         ensures { Taken K.Key.order self.old result self.new }
     {
-        if self.table.len() == 0 {
+        if self.is_empty() {
             return None;
         }
         Some(self.take_first())

@@ -10,6 +10,7 @@ use crate::key::Key;
 
 impl<K: Key> IndexedHeap<K> {
     /// Lets a place wait that does not.
+    #[tactic(auto, using(crate::proofs::Contents::absent_from_not))]
     pub(super) fn insert(&mut self, place: u16, key: K)
         requires known { place < 4096 }
         requires absent { is_some (content self.old place) ≡ false }

@@ -2,9 +2,6 @@ use Rattle.std.proofs.Common.{refl, ◌∙◌, arith}
 use Rattle.heap.proofs.Contents.{absent_from_not, append_above, one_more, with_written}
 use Rattle.heap.proofs.indexed_heap.IndexedHeap.insert.Goals as goal
 
-pub append-requires : goal.append-requires
-append-requires g c = (c.requires.known, absent_from_not c.args.self.now c.args.place c.requires.absent)
-
 pub returns : goal.returns
 returns g c =
     let h = c.args.self.now in
