@@ -206,8 +206,5 @@ module _ {K : Type 0} {bound : Ghosts K} (before after : IndexedHeap K bound) wh
       ∙ entry_removed (eqb p place) (waits before.table.positions p) (slice_get before.keys p)
       ∙ ap (λ here. cond here None (content before p)) (eqb_turned p place)
 
-  pub same_size : after.table.len ≡ before.table.len → size after ≡ size before
-  same_size e = let a = size_is_len before in let b = size_is_len after in omega arith
-
   pub one_more : after.table.len ≡ before.table.len + 1 → size after ≡ size before + 1
   one_more e = let a = size_is_len before in let b = size_is_len after in omega arith

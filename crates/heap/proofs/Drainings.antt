@@ -1,5 +1,5 @@
 -- One more place taken out, and what it makes of those before it.
-use Rattle.std.proofs.Common.{◌≡◌, ℕ, ◌+◌, ◌<◌, ◌≤◌, true, false, ◌⊎◌, List, length, get_or, set, is_some, Some, None, Option, sym, refl, ap, ◌∙◌, subst, inl, inr, ⊎_elim, arith}
+use Rattle.std.proofs.Common.{◌≡◌, ℕ, ◌+◌, ◌<◌, ◌≤◌, true, false, ◌⊎◌, List, length, get_or, set, is_some, Some, None, Option, sym, ap, ◌∙◌, subst, inl, inr, ⊎_elim, arith}
 use Rattle.std.proofs.lemmas.List.{get_or-set_same, get_or-set_other}
 use Rattle.std.proofs.lemmas.Bool.{cases_eq, cases_lt}
 use Rattle.std.proofs.lemmas.Bool.Decides.{eqb_tells}
@@ -18,20 +18,6 @@ module _ {K : Type 0} where
 
   same_key : (x : Option K) (a b : K) → x ≡ Some a → x ≡ Some b → a ≡ b
   same_key x a b e f = cc
-
-  pub drained_none : (held : ℕ → Option K) (places : List ℕ) → Drained held places 0 held
-  drained_none held places = record {
-    held = λ i l. absurd (let k = l in omega arith);
-    once = λ i j l. absurd (let k = l in omega arith);
-    gone = λ i l. absurd (let k = l in omega arith);
-    kept = λ p. inr refl;
-  }
-
-  pub rising_none : (o : TotalOrder K) (held : ℕ → Option K) (places : List ℕ) → Rising o held places 0 held
-  rising_none o held places = record {
-    along = λ i j a b l m. absurd (let k = m in omega arith);
-    ahead = λ i p a b l. absurd (let k = l in omega arith);
-  }
 
   -- once nothing is left, all has been handed out
   pub all_from_none : (before after : ℕ → Option K) (places : List ℕ) (count : ℕ) → Drained before places count after

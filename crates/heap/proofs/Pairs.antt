@@ -1,5 +1,5 @@
 -- What the table's writes leave of its pairing.
-use Rattle.std.proofs.Common.{◌≡◌, ℕ, zero, suc, ◌+◌, ◌<◌, ◌≤◌, true, false, cond, eqb, ◌⊎◌, List, length, get_or, set, replicate, ap, ◌∙◌, inl, inr, ⊎_elim, suc-le-suc, zero-le, arith, length-set}
+use Rattle.std.proofs.Common.{◌≡◌, ℕ, zero, suc, ◌+◌, ◌<◌, ◌≤◌, true, false, cond, eqb, ◌⊎◌, List, length, get_or, set, replicate, sym, ap, ◌∙◌, subst, inl, inr, ⊎_elim, suc-le-suc, zero-le, arith, length-set}
 use Rattle.std.proofs.lemmas.List.Edits.{Swapped}
 use Rattle.std.proofs.lemmas.List.{get_or-set_same, get_or-set_other, get_or-replicate, get_or_past, length-replicate}
 use Rattle.std.proofs.lemmas.Bool.{cases_eq, cases_lt, eqb-true, not-false}
@@ -108,8 +108,8 @@ abbrev moved : Table → ℕ → ℕ → List ℕ
 moved t i j = set (set t.positions (get_or t.slots i 0) j) (get_or t.slots j 0) i
 
 module _ (t : Table) (i j : ℕ) (li : i < t.len) (lj : j < t.len) where
-  pub swap_filled : Filled (exchange t.slots i j) (moved t i j) t.len
-  swap_filled k lk =
+  exchange_filled : Filled (exchange t.slots i j) (moved t i j) t.len
+  exchange_filled k lk =
       let a = get_or t.slots i 0 in
       let b = get_or t.slots j 0 in
       let at = get_or (exchange t.slots i j) k 0 in
@@ -125,8 +125,8 @@ module _ (t : Table) (i j : ℕ) (li : i < t.len) (lj : j < t.len) where
       let p2 = at_set (set t.positions a j) b i at 4096 (omega arith) in
       (grind arith, grind arith)
 
-  pub swap_placed : Placed (exchange t.slots i j) (moved t i j) t.len
-  swap_placed p h =
+  exchange_placed : Placed (exchange t.slots i j) (moved t i j) t.len
+  exchange_placed p h =
       let a = get_or t.slots i 0 in
       let b = get_or t.slots j 0 in
       let at = mark (moved t i j) p in
@@ -141,6 +141,13 @@ module _ (t : Table) (i j : ℕ) (li : i < t.len) (lj : j < t.len) where
       let s1 = at_set t.slots i b at 0 (omega arith) in
       let s2 = at_set (set t.slots i b) j a at 0 (omega arith) in
       (grind arith, grind arith)
+
+  -- the table is paired again once the places of two slots are exchanged, and their positions with them
+  pub swap_filled : (slots : List ℕ) → slots ≡ exchange t.slots i j → Filled slots (moved t i j) t.len
+  swap_filled slots e = subst (λ s. Filled s (moved t i j) t.len) (sym e) exchange_filled
+
+  pub swap_placed : (slots : List ℕ) → slots ≡ exchange t.slots i j → Placed slots (moved t i j) t.len
+  swap_placed slots e = subst (λ s. Placed s (moved t i j) t.len) (sym e) exchange_placed
 
   -- the place that was in the one slot is in the other
   pub place_swapped : (slots : List ℕ) → slots ≡ exchange t.slots i j → get_or slots j 0 ≡ get_or t.slots i 0

@@ -18,6 +18,7 @@ mod well_timed;
 #[derive(Drop)]
 pub struct IndexedHeap<K: Key> {
     table: Table,
+    // A key for each place, by its number, whether it waits or not: a heap has fixed memory.
     keys: [K; PLACES],
     ghost sized: { length keys ≡ 4096 },
     ghost ordered: { Heaped K.Key.order (key_in K.Key.order keys table.slots) table.len },

@@ -6,6 +6,8 @@ pub mod length_key;
 pub mod rank_place;
 
 /// A key: values with a total order and a least one.
+// Not `Ord`: that has no least value, and a length is ordered by its measure's one comparison, from which
+// `Ord` would need four impls by hand.
 pub trait Key: Copy {
     /// The order with its laws.
     ghost order: { TotalOrder Self };

@@ -20,7 +20,7 @@ impl Table {
     {
         let key = self.key(keys, from);
         let mut at = from;
-        // Loops, not iterators: both walk between a slot and its child, and do not count.
+        // A loop and not an iterator: it goes from a slot to the one above it, and does not count.
         while at > 0 {
             let above = (at - 1) / 2;
             if self.key(keys, above).at_most(key) {
@@ -43,6 +43,7 @@ impl Table {
         }
         let key = self.key(keys, 0);
         let mut at = 0;
+        // A loop here too: it goes from a slot to one of the two below it.
         while 2 * at + 1 < len {
             let child = self.least_below(keys, 2 * at + 1);
             if key.at_most(self.key(keys, child)) {

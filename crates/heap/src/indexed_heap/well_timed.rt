@@ -10,7 +10,7 @@ use crate::key::Key;
 
 impl<K: Key> IndexedHeap<K> {
     /// Lets a place wait that does not.
-    #[tactic(auto, using(crate::proofs::Contents::absent_from_not))]
+    #[tactic(auto, using(crate::proofs::Contents::absent_from_not, crate::proofs::Contents::size_is_len))]
     pub(super) fn insert(&mut self, place: u16, key: K)
         requires known { place < 4096 }
         requires absent { is_some (content self.old place) ≡ false }
@@ -26,6 +26,7 @@ impl<K: Key> IndexedHeap<K> {
     }
 
     /// Gives a place that waits a key that is at most the one it has.
+    #[tactic(auto, using(crate::proofs::Contents::size_is_len, crate::proofs::Contents::waits_from_by, crate::proofs::Pairs::waits_placed))]
     pub(super) fn reduce(&mut self, place: u16, key: K)
         requires known { place < 4096 }
         requires lower { IsSomeAnd (content self.old place) (λ old. T (K.Key.order.at_most key old)) }

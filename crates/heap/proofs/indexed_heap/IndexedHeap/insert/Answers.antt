@@ -1,17 +1,11 @@
 use Rattle.std.proofs.Common.{refl, ◌∙◌, arith}
-use Rattle.heap.proofs.Contents.{absent_from_not, append_above, one_more, with_written}
+use Rattle.heap.proofs.Contents.{absent_from_not, append_above, with_written}
 use Rattle.heap.proofs.indexed_heap.IndexedHeap.insert.Goals as goal
 
-pub returns : goal.returns
-returns g c =
-    let h = c.args.self.now in
-    let place = c.args.place in
-    let absent = absent_from_not h place c.requires.absent in
-    record {
-      with = with_written h _ place c.args.key c.requires.known refl
-          (λ p. c.sift_up.ensures.waiting p ∙ c.append.ensures.waiting p);
-      size = one_more h _ (c.sift_up.ensures.len ∙ c.append.ensures.len);
-    }
+pub returns-clause-with : goal.returns-clause-with
+returns-clause-with g c =
+    with_written c.args.self.now _ c.args.place c.args.key c.requires.known refl
+    (λ p. c.sift_up.ensures.waiting p ∙ c.append.ensures.waiting p)
 
 pub invariant_of-self-clause-ordered : goal.invariant_of-self-clause-ordered
 invariant_of-self-clause-ordered g c i pos lt =
