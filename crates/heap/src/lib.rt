@@ -3,6 +3,7 @@
 
 pub mod indexed_heap;
 pub mod key;
+mod place;
 pub mod refusal;
 mod sift;
 mod table;

@@ -3,6 +3,7 @@ ghost use Rattle.std.specs.Prelude.{◌≡◌, ℕ, ◌+◌, ◌-◌, ◌<◌, �
 ghost use Rattle.heap.specs.Pairing.{Filled, Placed, exchange, mark, waits};
 
 use crate::PLACES;
+use crate::place::Place;
 
 /// The mark of a place that stands in no slot.
 // A number and not `None`: each change copies the table out and back, and with marks of `Option<u16>` the
@@ -57,20 +58,19 @@ impl Table {
 
     /// Whether a place stands in some slot.
     #[tactic(auto, using(std::proofs::lemmas::List::get_or_default))]
-    pub(crate) fn contains(&self, place: u16) -> bool
-        requires { place < 4096 }
-        ensures { result ≡ waits self.now.positions place }
+    pub(crate) fn contains(&self, place: Place) -> bool
+        ensures { result ≡ waits self.now.positions place.number }
     {
-        self.positions[place as usize] != ABSENT
+        self.positions[place.number as usize] != ABSENT
     }
 
     /// The slot of a place that stands in one.
     #[tactic(auto, using(std::proofs::lemmas::List::get_or_default))]
-    pub(crate) fn slot(&self, place: u16) -> u16
-        requires { (place < 4096) × (waits self.now.positions place ≡ true) }
-        ensures { result ≡ mark self.now.positions place }
+    pub(crate) fn slot(&self, place: Place) -> u16
+        requires { waits self.now.positions place.number ≡ true }
+        ensures { result ≡ mark self.now.positions place.number }
     {
-        self.positions[place as usize]
+        self.positions[place.number as usize]
     }
 
     /// Exchanges the places in two slots.
@@ -89,14 +89,14 @@ impl Table {
 
     /// Puts an absent place into the slot past the last.
     #[tactic(auto, using(crate::proofs::Pairs::slot_left))]
-    pub(crate) fn append(&mut self, place: u16)
-        requires { (place < 4096) × (waits self.old.positions place ≡ false) }
+    pub(crate) fn append(&mut self, place: Place)
+        requires { waits self.old.positions place.number ≡ false }
         ensures len { self.new.len ≡ self.old.len + 1 }
-        ensures slots { self.new.slots ≡ slice_set self.old.slots self.old.len place }
-        ensures waiting { (p : ℕ) → waits self.new.positions p ≡ (if nat_eq p place then true else waits self.old.positions p) }
+        ensures slots { self.new.slots ≡ slice_set self.old.slots self.old.len place.number }
+        ensures waiting { (p : ℕ) → waits self.new.positions p ≡ (if nat_eq p place.number then true else waits self.old.positions p) }
     {
-        self.slots[self.len] = place;
-        self.positions[place as usize] = self.len as u16;
+        self.slots[self.len] = place.number;
+        self.positions[place.number as usize] = self.len as u16;
         self.len += 1;
     }
 

@@ -4,8 +4,8 @@
 ghost use Rattle.heap.specs.Changes.{Lowered, Pushed, Taken};
 
 use super::IndexedHeap;
-use crate::PLACES;
 use crate::key::Key;
+use crate::place::Place;
 use crate::refusal::HeapRefusal;
 
 impl<K: Key> IndexedHeap<K> {
@@ -13,13 +13,13 @@ impl<K: Key> IndexedHeap<K> {
     pub fn push(&mut self, place: u16, key: K) -> Result<(), HeapRefusal>
         ensures { Pushed self.old place key result self.new }
     {
-        if place as usize >= PLACES {
+        let Some(known) = Place::new(place) else {
             return Err(HeapRefusal::NoSuchPlace);
-        }
+        };
         if self.contains(place) {
             return Err(HeapRefusal::Waiting);
         }
-        self.insert(place, key);
+        self.insert(known, key);
         Ok(())
     }
 
@@ -27,16 +27,16 @@ impl<K: Key> IndexedHeap<K> {
     pub fn lower(&mut self, place: u16, key: K) -> Result<(), HeapRefusal>
         ensures { Lowered K.Key.order self.old place key result self.new }
     {
-        if place as usize >= PLACES {
+        let Some(known) = Place::new(place) else {
             return Err(HeapRefusal::NoSuchPlace);
-        }
+        };
         let Some(old) = self.key_of(place) else {
             return Err(HeapRefusal::NotWaiting);
         };
         if !key.at_most(old) {
             return Err(HeapRefusal::HigherKey);
         }
-        self.reduce(place, key);
+        self.reduce(known, key);
         Ok(())
     }
 

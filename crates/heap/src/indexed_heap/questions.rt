@@ -5,6 +5,7 @@ ghost use Rattle.heap.specs.Content.{content, size};
 use super::IndexedHeap;
 use crate::PLACES;
 use crate::key::Key;
+use crate::place::Place;
 use crate::table::Table;
 
 impl<K: Key> IndexedHeap<K> {
@@ -40,11 +41,9 @@ impl<K: Key> IndexedHeap<K> {
     pub fn key_of(&self, place: u16) -> Option<K>
         ensures { result ≡ content self.now place }
     {
-        if place as usize >= PLACES {
-            return None;
-        }
+        let place = Place::new(place)?;
         if self.table.contains(place) {
-            Some(self.keys[place as usize])
+            Some(self.keys[place.number as usize])
         } else {
             None
         }

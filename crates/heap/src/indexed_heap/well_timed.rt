@@ -8,17 +8,17 @@ ghost use Rattle.heap.specs.Content.{content, size};
 
 use super::IndexedHeap;
 use crate::key::Key;
+use crate::place::Place;
 
 impl<K: Key> IndexedHeap<K> {
     /// Lets a place wait that does not.
     #[tactic(auto, using(crate::proofs::Contents::absent_from_not, crate::proofs::Contents::size_is_len))]
-    pub(super) fn insert(&mut self, place: u16, key: K)
-        requires known { place < 4096 }
-        requires absent { is_some (content self.old place) ≡ false }
-        ensures with { With (content self.old) place (Some key) (content self.new) }
+    pub(super) fn insert(&mut self, place: Place, key: K)
+        requires { is_some (content self.old place.number) ≡ false }
+        ensures with { With (content self.old) place.number (Some key) (content self.new) }
         ensures size { size self.new ≡ size self.old + 1 }
     {
-        self.keys[place as usize] = key;
+        self.keys[place.number as usize] = key;
         let mut table = self.table;
         table.append(place);
         let last = table.len() - 1;
@@ -28,13 +28,12 @@ impl<K: Key> IndexedHeap<K> {
 
     /// Gives a place that waits a key that is at most the one it has.
     #[tactic(auto, using(crate::proofs::Contents::size_is_len, crate::proofs::Contents::waits_from_by, crate::proofs::Pairs::waits_placed))]
-    pub(super) fn reduce(&mut self, place: u16, key: K)
-        requires known { place < 4096 }
-        requires lower { IsSomeAnd (content self.old place) (λ old. T (K.Key.order.at_most key old)) }
-        ensures with { With (content self.old) place (Some key) (content self.new) }
+    pub(super) fn reduce(&mut self, place: Place, key: K)
+        requires { IsSomeAnd (content self.old place.number) (λ old. T (K.Key.order.at_most key old)) }
+        ensures with { With (content self.old) place.number (Some key) (content self.new) }
         ensures size { size self.new ≡ size self.old }
     {
-        self.keys[place as usize] = key;
+        self.keys[place.number as usize] = key;
         let mut table = self.table;
         let slot = table.slot(place) as usize;
         table.sift_up(&self.keys, slot);

@@ -4,13 +4,13 @@ use Rattle.heap.proofs.indexed_heap.IndexedHeap.insert.Goals as goal
 
 pub returns-clause-with : goal.returns-clause-with
 returns-clause-with g c =
-    with_written c.args.self.now _ c.args.place c.args.key c.requires.known refl
+    with_written c.args.self.now _ c.args.place.number c.args.key c.args.place.known refl
     (λ p. c.sift_up.ensures.waiting p ∙ c.append.ensures.waiting p)
 
 pub invariant_of-self-clause-ordered : goal.invariant_of-self-clause-ordered
 invariant_of-self-clause-ordered g c i pos lt =
     let h = c.args.self.now in
-    let absent = absent_from_not h c.args.place c.requires.absent in
+    let place = c.args.place.number in
     c.sift_up.ensures.heaped
-    (append_above h c.args.place c.args.key _ _ _ absent c.append.ensures.slots c.append.ensures.len (omega arith))
+    (append_above h place c.args.key _ _ _ (absent_from_not h place c.requires) c.append.ensures.slots c.append.ensures.len (omega arith))
     i pos (omega arith)

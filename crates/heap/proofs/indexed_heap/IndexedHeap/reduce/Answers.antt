@@ -6,11 +6,12 @@ use Rattle.heap.proofs.indexed_heap.IndexedHeap.reduce.Goals as goal
 pub returns-clause-with : goal.returns-clause-with
 returns-clause-with g c =
     let h = c.args.self.now in
-    let waits = waits_from_by h c.args.place _ c.requires.lower in
-    with_written h _ c.args.place c.args.key c.requires.known refl
-    (λ p. let a = c.sift_up.ensures.waiting p in let b = eqb_tells p c.args.place in grind arith)
+    let place = c.args.place in
+    let waits = waits_from_by h place.number _ c.requires in
+    with_written h _ place.number c.args.key place.known refl
+    (λ p. let a = c.sift_up.ensures.waiting p in let b = eqb_tells p place.number in grind arith)
 
 pub invariant_of-self-clause-ordered : goal.invariant_of-self-clause-ordered
 invariant_of-self-clause-ordered g c i pos lt =
     c.sift_up.ensures.heaped
-    (lower_above c.args.self.now c.args.place _ c.args.key c.requires.lower c.slot-slot.ensures) i pos (omega arith)
+    (lower_above c.args.self.now c.args.place.number _ c.args.key c.requires c.slot-slot.ensures) i pos (omega arith)
