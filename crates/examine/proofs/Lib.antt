@@ -1,0 +1,3 @@
+pub mod Ranges
+pub mod Rising
+pub mod Wholes

@@ -1,43 +1,35 @@
 //! The test of positions: along each sketch they rise, and are below the number swept.
-ghost use Rattle.std.specs.Prelude.{Decides};
+ghost use Rattle.std.specs.Prelude.{◌<◌, ◌↔◌, IsTrue, IfSome};
 ghost use Rattle.tables.specs.Tests.{PositionsTest, RisingBelow};
 ghost use Rattle.tables.specs.Walks.{plain_sketch, positions};
 
-use sketches::cells::{cell_at, row_of};
-use tables::rows::{Cell, HomeRow};
+use crate::memory::Memory;
 
-// Whether positions along the sketch of a place rise, and are below the number swept.
-fn rises<R: Copy>(swept: u16, home: &[HomeRow], cells: &[Cell<R>], v: u16) -> bool
-    ensures { Decides result (RisingBelow swept (positions (plain_sketch home.now cells.now v))) }
+// Whether a position comes after the one before it, if there is one, and is below the number swept.
+fn comes_next(before: Option<u16>, position: u16, swept: u16) -> bool
+    ensures { IsTrue result ↔ (IfSome before (λ p. p < position) × (position < swept)) }
 {
-    let row = row_of(home, v);
-    let mut lowest: u32 = 0;
-    let mut at = row.first;
-    for _ in 0..row.entries {
-        let Some(cell) = cell_at(cells, at) else {
-            return true;
-        };
-        if (cell.position as u32) < lowest || cell.position >= swept {
-            return false;
-        }
-        lowest = cell.position as u32 + 1;
-        at = cell.after;
-    }
-    true
+    before.is_none_or(|p| p < position) && position < swept
 }
 
-pub(crate) fn positions_hold<R: Copy>(
-    n: u16,
-    swept: u16,
-    home: &[HomeRow],
-    cells: &[Cell<R>],
-) -> bool
-    ensures { Decides result (PositionsTest n swept home.now cells.now) }
-{
-    for v in 0..n {
-        if !rises(swept, home, cells, v) {
-            return false;
+impl<R: Copy> Memory<'_, R> {
+    // Whether positions along the sketch of a place rise, and are below the number swept.
+    fn rises(&self, v: u16) -> bool
+        ensures { IsTrue result ↔ RisingBelow self.now.swept (positions (plain_sketch self.now.sketches.home.now self.now.sketches.cells.now v)) }
+    {
+        let mut before = None;
+        for entry in self.sketches.entries(v) {
+            if !comes_next(before, entry.position, self.swept) {
+                return false;
+            }
+            before = Some(entry.position);
         }
+        true
     }
-    true
+
+    pub(crate) fn positions_hold(&self) -> bool
+        ensures { IsTrue result ↔ PositionsTest self.now.n self.now.swept self.now.sketches.home.now self.now.sketches.cells.now }
+    {
+        (0..self.n).all(|v| self.rises(v))
+    }
 }

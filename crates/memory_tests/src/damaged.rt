@@ -1,13 +1,13 @@
 //! Damaged memories, each with the first test that it fails, and sound ones beside them.
-use crate::memory::{Change, Memory, founded, town};
+use crate::memory::{Change, TestMemory, founded, town};
 use fault::memory_test::MemoryTest;
 use std::process::Abort;
 use tables::rows::MISSING;
 
 /// Each of these changes alone has the memory fail this test first.
-fn check_each(rt: &impl Abort, memory: Memory, changes: &[Change], due: MemoryTest) {
-    for change in changes.iter().copied() {
-        assert_eq!(rt; memory.with(&[change]).first_failing(), Some(due));
+fn check_each(rt: &impl Abort, memory: TestMemory, changes: &[Change], due: MemoryTest) {
+    for change in changes {
+        assert_eq!(rt; memory.with(&[*change]).first_failing(), Some(due));
     }
 }
 
@@ -244,21 +244,15 @@ fn sound(rt: HostRuntime) {
 #[test]
 fn earlier_test_is_told(rt: HostRuntime) {
     // with every test broken, the first is told; with that one mended, the next
-    let all = [
-        Change::MapPlaces(6),
-        Change::Used(13),
-        Change::Noted(13, 5),
-        Change::Last(0, 3),
-        Change::Rank(0, 0),
-    ];
-    let due = [
-        MemoryTest::Places,
-        MemoryTest::Counts,
-        MemoryTest::Positions,
-        MemoryTest::Links,
-        MemoryTest::Order,
-    ];
-    for i in 0..5 {
-        assert_eq!(rt; town().with(&all[..i + 1]).first_failing(), Some(due[i]));
+    let mut memory = town();
+    for (change, due) in [
+        (Change::MapPlaces(6), MemoryTest::Places),
+        (Change::Used(13), MemoryTest::Counts),
+        (Change::Noted(13, 5), MemoryTest::Positions),
+        (Change::Last(0, 3), MemoryTest::Links),
+        (Change::Rank(0, 0), MemoryTest::Order),
+    ] {
+        memory = memory.with(&[change]);
+        assert_eq!(rt; memory.first_failing(), Some(due));
     }
 }

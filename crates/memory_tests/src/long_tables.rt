@@ -1,32 +1,39 @@
 //! Tables of 65,536 cells and more: only the first 65,536 cells exist.
-use examine::examine;
+use examine::memory::Memory;
 use fault::memory_test::MemoryTest;
+use sketches::cells::cells_there;
 use sketches::free::free_cell;
-use std::alloc::Global;
+use sketches::view::Sketches;
+use std::alloc::{AllocError, Global};
 use std::test::Fail;
 use tables::rows::{Cell, HomeRow, MISSING, OrderRow};
 
 /// So many cells of one place, each linked to its neighbours, at positions that rise as far as they can.
-fn chain(heap: Global, length: u32) -> Result<Vec<Cell<u32>>, Fail> {
-    let mut cells = Vec::new(heap);
-    let mut before = MISSING;
-    for j in 0..length {
-        cells.push(Cell {
+fn chain(heap: Global, length: u32) -> Result<Vec<Cell<u32>>, AllocError> {
+    (0..length)
+        .map(|j| Cell {
             owner: 0,
             position: j.min(65_535) as u16,
             length: 0,
-            before,
+            before: if j > 0 { j - 1 } else { MISSING },
             after: if j < length - 1 { j + 1 } else { MISSING },
-        })?;
-        before = j;
-    }
-    Ok(cells)
+        })
+        .collect(heap)
 }
 
 /// The first test that a map of one place with such a sketch fails.
 fn first_failing(used: u32, row: HomeRow, cells: &[Cell<u32>]) -> Option<MemoryTest> {
-    let order = [OrderRow { rank: 1, place: 0 }];
-    examine(1, 65_535, used, &order, &[row], cells, Some(1)).err()
+    let memory = Memory {
+        n: 1,
+        swept: 65_535,
+        used,
+        order: &[OrderRow { rank: 1, place: 0 }],
+        sketches: Sketches {
+            home: &[row],
+            cells,
+        },
+    };
+    memory.examine(Some(1)).err()
 }
 
 /// The row of a place with so many entries, from the first cell to this one.
@@ -87,6 +94,7 @@ fn cells_past_the_last(rt: HostRuntime) -> Result<(), Fail> {
         before: 1,
         after: MISSING,
     })?;
+    assert_eq!(rt; cells_there(&cells), 65_536);
     assert_eq!(rt; first_failing(2, row(1, 2), &cells), None);
     assert_eq!(rt;
         first_failing(65_537, row(1, 2), &cells),
@@ -100,15 +108,13 @@ fn cells_past_the_last(rt: HostRuntime) -> Result<(), Fail> {
 }
 
 /// Free cells up to the number of 65,536.
-fn fill_up(cells: &mut Vec<Cell<u32>>) -> Result<(), Fail> {
-    for _ in 2..65_536 {
-        cells.push(Cell {
-            owner: 1,
-            position: 0,
-            length: 0,
-            before: 0,
-            after: 0,
-        })?;
-    }
-    Ok(())
+fn fill_up(cells: &mut Vec<Cell<u32>>) -> Result<(), AllocError> {
+    let free = Cell {
+        owner: 1,
+        position: 0,
+        length: 0,
+        before: 0,
+        after: 0,
+    };
+    cells.resize(65_536, free)
 }

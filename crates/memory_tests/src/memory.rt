@@ -1,11 +1,13 @@
 //! A sound memory to start from: the town of five with every place swept and k = 2, and changes of one number in it.
-use examine::examine;
+use examine::memory::Memory;
 use fault::memory_test::MemoryTest;
+use sketches::view::Sketches;
 use tables::rows::{Cell, HomeRow, MISSING, OrderRow};
 
 /// The tables with the numbers that go with them, and how many rows of each table are lent.
+// Arrays with the number lent beside, not Vecs: each memory here is copied and changed, and a Vec would need an allocator and a test of each copy.
 #[derive(Clone, Copy)]
-pub(crate) struct Memory {
+pub(crate) struct TestMemory {
     pub(crate) n: u16,
     pub(crate) swept: u16,
     pub(crate) used: u32,
@@ -19,6 +21,7 @@ pub(crate) struct Memory {
 }
 
 /// One number changed: at which row, and to what.
+// Data, not closures: `Rank(0, 0)` says no more than it has to, and a list of closures would need a clause that each may be called.
 #[derive(Clone, Copy)]
 pub(crate) enum Change {
     Rank(usize, u32),
@@ -107,8 +110,8 @@ fn cells() -> [Cell<u32>; 16] {
 }
 
 /// The town of five with every place swept: 14 entries in 16 cells, and a surplus row in the other tables.
-pub(crate) fn town() -> Memory {
-    Memory {
+pub(crate) fn town() -> TestMemory {
+    TestMemory {
         n: 5,
         swept: 5,
         used: 14,
@@ -123,20 +126,20 @@ pub(crate) fn town() -> Memory {
 }
 
 /// The town of five with nothing swept.
-pub(crate) fn founded() -> Memory {
+pub(crate) fn founded() -> TestMemory {
     let mut memory = town();
     memory.swept = 0;
     memory.used = 0;
-    for v in 0..5 {
-        memory.home[v] = home_row(memory.home[v].position, MISSING, MISSING, 0);
+    for row in &mut memory.home[..5] {
+        *row = HomeRow::empty(row.position);
     }
-    for j in 0..16 {
-        memory.cells[j].owner = 5;
+    for cell in &mut memory.cells {
+        cell.owner = 5;
     }
     memory
 }
 
-impl Memory {
+impl TestMemory {
     /// Makes one change of a row; past the table's end, none.
     fn change_row(&mut self, change: Change) {
         match change {
@@ -169,24 +172,30 @@ impl Memory {
     }
 
     /// The memory with these changes made.
-    pub(crate) fn with(mut self, changes: &[Change]) -> Memory {
-        for change in changes.iter().copied() {
-            self.change(change);
+    pub(crate) fn with(mut self, changes: &[Change]) -> TestMemory {
+        for change in changes {
+            self.change(*change);
         }
         self
     }
 
+    /// The sketches, as far as rows are lent.
+    pub(crate) fn sketches(&self) -> Sketches<'_, u32> {
+        Sketches {
+            home: &self.home[..self.home_rows.min(6)],
+            cells: &self.cells[..self.cell_rows.min(16)],
+        }
+    }
+
     /// The first test that fails, if any.
     pub(crate) fn first_failing(&self) -> Option<MemoryTest> {
-        let verdict = examine(
-            self.n,
-            self.swept,
-            self.used,
-            &self.order[..self.order_rows.min(6)],
-            &self.home[..self.home_rows.min(6)],
-            &self.cells[..self.cell_rows.min(16)],
-            self.map_places,
-        );
-        verdict.err()
+        let memory = Memory {
+            n: self.n,
+            swept: self.swept,
+            used: self.used,
+            order: &self.order[..self.order_rows.min(6)],
+            sketches: self.sketches(),
+        };
+        memory.examine(self.map_places).err()
     }
 }

@@ -1,7 +1,7 @@
 //! One row or one cell read or written, with every index tested.
 ghost use Rattle.std.specs.Prelude.{◌≡◌, ℕ, ◌<◌, ◌≤◌, drop, Some, slice_set};
 ghost use Rattle.tables.specs.Changes.{with_after};
-ghost use Rattle.tables.specs.Rows.{missing, home_at, cell_at};
+ghost use Rattle.tables.specs.Rows.{missing, home_at, cell_at, cells_there};
 ghost use Rattle.tables.specs.declared.rows.Cell.{Cell as CellRow};
 
 use tables::rows::{Cell, HomeRow, MISSING};
@@ -10,17 +10,7 @@ use tables::rows::{Cell, HomeRow, MISSING};
 pub fn row_of(home: &[HomeRow], v: u16) -> HomeRow
     ensures { result ≡ home_at home.now v }
 {
-    let v = v as usize;
-    if v < home.len() {
-        home[v]
-    } else {
-        HomeRow {
-            position: 0,
-            first: MISSING,
-            last: MISSING,
-            entries: 0,
-        }
-    }
+    home.get(v as usize).copied().unwrap_or(HomeRow::empty(0))
 }
 
 /// Writes the row of a place; past the table's end, nothing.
@@ -33,21 +23,29 @@ pub(crate) fn put_row(home: &mut [HomeRow], v: u16, row: HomeRow)
     }
 }
 
+/// How many cells there are.
+pub fn cells_there<R>(cells: &[Cell<R>]) -> u32
+    ensures { result ≡ cells_there cells.now }
+{
+    cells.len().min(MISSING as usize) as u32
+}
+
 /// The cell of this number, if there is one.
 pub fn cell_at<R: Copy>(cells: &[Cell<R>], at: u32) -> Option<Cell<R>>
     ensures { result ≡ cell_at cells.now at }
 {
-    let here = at as usize;
-    if at >= MISSING || here >= cells.len() {
-        return None;
+    if at < MISSING {
+        cells.get(at as usize).copied()
+    } else {
+        None
     }
-    Some(cells[here])
 }
 
 /// Writes the cell of this number; where there is none, nothing.
 pub(crate) fn put_cell<R: Copy>(cells: &mut [Cell<R>], at: u32, cell: Cell<R>)
     ensures there { at < missing → cells.new ≡ slice_set cells.old at cell }
-    ensures surplus { missing ≤ at → cells.new ≡ cells.old }
+    ensures none { missing ≤ at → cells.new ≡ cells.old }
+    ensures surplus { drop missing cells.new ≡ drop missing cells.old }
 {
     let here = at as usize;
     if at < MISSING && here < cells.len() {
@@ -60,9 +58,7 @@ pub(crate) fn set_after<R: Copy>(cells: &mut [Cell<R>], at: u32, after: u32)
     ensures there { (c : CellRow R) → cell_at cells.old at ≡ Some c → cells.new ≡ slice_set cells.old at (with_after c after) }
     ensures surplus { drop missing cells.new ≡ drop missing cells.old }
 {
-    let Some(mut cell) = cell_at(cells, at) else {
-        return;
-    };
-    cell.after = after;
-    put_cell(cells, at, cell);
+    if let Some(cell) = cell_at(cells, at) {
+        put_cell(cells, at, Cell { after, ..cell });
+    }
 }

@@ -3,25 +3,23 @@ ghost use Rattle.std.specs.Prelude.{◌≡◌, length};
 ghost use Rattle.bottom_k.specs.Sketches.{entries_within};
 ghost use Rattle.tables.specs.Walks.{sketch};
 
-use crate::cells::{cell_at, row_of};
+use crate::view::Sketches;
 use measure::Measure;
-use tables::rows::{Cell, HomeRow};
 
-/// The number of entries of the sketch of a place that are at most `limit` long.
-pub fn count_within<M: Measure>(home: &[HomeRow], cells: &[Cell<M::Row>], v: u16, limit: M) -> u32
-    ensures { result ≡ length (entries_within M.Measure.laws limit (sketch M.Measure.encoding home.now cells.now v)) }
+// Whether an entry of this length is at most `limit` long.
+fn is_within<M: Measure>(length: M::Row, limit: M) -> bool
+    ensures { result ≡ M.Measure.laws.at_most (M.Measure.encoding.reads length) limit }
 {
-    let row = row_of(home, v);
-    let mut count = 0;
-    let mut at = row.first;
-    for _ in 0..row.entries {
-        let Some(cell) = cell_at(cells, at) else {
-            return count;
-        };
-        if M::read(cell.length).at_most(limit) {
-            count += 1;
-        }
-        at = cell.after;
+    M::read(length).at_most(limit)
+}
+
+impl<R: Copy> Sketches<'_, R> {
+    /// The number of entries of the sketch of a place that are at most `limit` long.
+    pub fn count_within<M: Measure<Row = R>>(&self, v: u16, limit: M) -> u32
+        ensures { result ≡ length (entries_within M.Measure.laws limit (sketch M.Measure.encoding self.now.home.now self.now.cells.now v)) }
+    {
+        self.entries(v)
+            .filter(|entry| is_within(entry.length, limit))
+            .count() as u32
     }
-    count
 }

@@ -9,3 +9,4 @@ pub mod counting;
 pub mod free;
 pub mod reader;
 pub mod removing;
+pub mod view;

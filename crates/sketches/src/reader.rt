@@ -1,10 +1,12 @@
 //! Reads a sketch, entry by entry.
-ghost use Rattle.std.specs.Prelude.{◌≡◌, ◌^◌, ◌<◌, [], ◌∷◌, length, MatchOption};
-ghost use Rattle.sketches.specs.Reader.{remaining};
+ghost use Rattle.std.specs.Prelude.{◌≡◌, ◌^◌, ◌<◌, length};
+ghost use Rattle.std.specs.Iterator.{YieldsFirst, item_count};
+ghost use Rattle.sketches.specs.Reader.{entries_left};
 ghost use Rattle.tables.specs.Walks.{plain_sketch};
 
 use crate::cells::{cell_at, row_of};
-use tables::rows::{Cell, Entry, HomeRow};
+use crate::view::Sketches;
+use tables::rows::{Cell, Entry};
 
 /// What is left to read of a sketch: from the cell `at` on, `left` entries at most.
 #[derive(Drop)]
@@ -14,35 +16,38 @@ pub struct SketchReader<'a, R> {
     left: u32,
 }
 
-/// A reader of the sketch of a place, at its start.
-pub fn read<'a, R: Copy>(home: &[HomeRow], cells: &'a [Cell<R>], v: u16) -> SketchReader<'a, R>
-    ensures whole { remaining result ≡ plain_sketch home.now cells.now v }
-    ensures few { length (remaining result) < 2 ^ 32 }
-{
-    let row = row_of(home, v);
-    SketchReader {
-        cells,
-        at: row.first,
-        left: row.entries,
+impl<'a, R: Copy> Sketches<'a, R> {
+    /// A reader of the sketch of a place, at its start.
+    #[tactic(auto, using(tables::proofs::Chains::forward_few))]
+    pub fn entries(&self, v: u16) -> SketchReader<'a, R>
+        ensures whole { entries_left result ≡ plain_sketch self.now.home.now self.now.cells.now v }
+        ensures few { length (entries_left result) < 2 ^ 32 }
+    {
+        let row = row_of(self.home, v);
+        SketchReader {
+            cells: self.cells,
+            at: row.first,
+            left: row.entries,
+        }
     }
 }
 
-impl<R: Copy> SketchReader<'_, R> {
+impl<R: Copy> Iterator for SketchReader<'_, R> {
+    type Item = Entry<R>;
+
+    ghost next_gives = { YieldsFirst entries_left };
+
+    ghost remaining = { item_count entries_left };
+
     /// The next entry, which is then read; none once all are.
-    pub fn next(&mut self) -> Option<Entry<R>>
-        ensures { MatchOption result ((remaining self.old ≡ []) × (remaining self.new ≡ [])) (λ e. remaining self.old ≡ e ∷ remaining self.new) }
-    {
+    #[tactic(auto, using(tables::proofs::Chains::forward_none, tables::proofs::Chains::forward_next))]
+    fn next(&mut self) -> Option<Entry<R>> {
         if self.left == 0 {
             return None;
         }
-        let Some(cell) = cell_at(self.cells, self.at) else {
-            return None;
-        };
+        let cell = cell_at(self.cells, self.at)?;
         self.at = cell.after;
         self.left -= 1;
-        Some(Entry {
-            position: cell.position,
-            length: cell.length,
-        })
+        Some(Entry::from(cell))
     }
 }

@@ -1,6 +1,6 @@
 -- An entry more at the end of a sketch.
-use Rattle.std.proofs.Common.{◌≡◌, ℕ, suc, ◌+◌, ◌-◌, ◌<◌, min, ◌≢◌, List, [], ◌∷◌, ◌++◌, set, Some, sym, refl, ap, ◌∙◌, subst, ⊎_elim, add-one, arith}
-use Rattle.std.proofs.lemmas.Bool.{cases_eq}
+use Rattle.std.proofs.Common.{◌≡◌, ℕ, suc, ◌+◌, ◌-◌, ◌<◌, min, cond, eqb, List, [], ◌∷◌, ◌++◌, set, Some, sym, refl, ap, ◌∙◌, subst, ⊎_elim, add-one, arith, eq-eqb}
+use Rattle.std.proofs.lemmas.Bool.{cases_eq, ne_eqb}
 use Rattle.tables.specs.declared.rows.HomeRow.{HomeRow}
 use Rattle.tables.specs.declared.rows.Cell.{Cell}
 use Rattle.tables.specs.declared.rows.Entry.{Entry}
@@ -11,7 +11,7 @@ use Rattle.tables.specs.Changes.{CanAppend, Appended, Free, with_after}
 use Rattle.tables.proofs.Rises.{Rises, rises_all, rising_from, rises_push}
 use Rattle.tables.proofs.Splices.{apart, cell_far, cell_in, cell_set_same, cell_set_other, chain_stays, chain_push, forward_push, before_last, relinked, last_cell}
 use Rattle.tables.proofs.Counts.{entries_set, entries_few, taken_same, taken_more, taken_few}
-use Rattle.tables.proofs.Rewrites.{here_sketch, other_sketches, all_linked, all_rising}
+use Rattle.tables.proofs.Rewrites.{here_sketch, other_sketches, all_linked, all_rising, row_made}
 
 module _ {R : Type 0} (n swept used : ℕ) (home : List HomeRow) (cells : List (Cell R)) (v free : ℕ) (e : Entry R) (can : CanAppend n swept used home cells v free e) where
   -- the cell that is linked, and the row of v after that
@@ -101,30 +101,33 @@ module _ {R : Type 0} (n swept used : ℕ) (home : List HomeRow) (cells : List (
       (λ ne. (c, sym (cell_set_other cells row.last j end ne) ∙ g, f)) (cases_eq j row.last))
       (taken_same n row.last cells d end at_last refl)
 
-  -- what the code writes is that: `row` is what it read of v, and the number of entries is held at the largest
-  abbrev written : HomeRow → ℕ → ℕ → List HomeRow
-  written row first entries = set home v (record { position = row.position; first = first; last = free; entries = entries })
+  held : (entries : ℕ) → entries ≡ min ((home_at home v).entries + 1) 4294967295 → entries ≡ (home_at home v).entries + 1
+  held entries more = omega (arith, entries_few n v used home cells can.place can.home_long can.sound.counts)
 
   abbrev linked_cell : HomeRow → Cell R
   linked_cell row = record { owner = v; position = e.position; length = e.length; before = row.last; after = missing }
 
-  held : (entries : ℕ) → entries ≡ min ((home_at home v).entries + 1) 4294967295 → entries ≡ (home_at home v).entries + 1
-  held entries more = omega (arith, entries_few n v used home cells can.place can.home_long can.sound.counts)
-
-  pub appended_first : (row : HomeRow) (entries : ℕ) → row ≡ home_at home v → row.entries ≡ 0 → entries ≡ min (row.entries + 1) 4294967295
-      → Appended n swept used home cells v free e (written row free entries) (set cells free (linked_cell row))
-  appended_first row entries is =
-      subst (λ r. r.entries ≡ 0 → entries ≡ min (r.entries + 1) 4294967295 → Appended n swept used home cells v free e (written r free entries) (set cells free (linked_cell r)))
-      (sym is) (λ none more. rw (held entries more) (append_first none))
-
-  pub appended_more : (row : HomeRow) (entries : ℕ) (mid : List (Cell R)) → row ≡ home_at home v → row.entries ≢ 0 → entries ≡ min (row.entries + 1) 4294967295
-      → ((d : Cell R) → cell_at cells row.last ≡ Some d → mid ≡ set cells row.last (with_after d free))
-      → Appended n swept used home cells v free e (written row row.first entries) (set mid free (linked_cell row))
-  appended_more row entries mid is =
+  -- what the code writes is that: `row` is what it read of v, `longer` what it writes of v, and the number of entries is held at the largest
+  pub appended_by : (row longer : HomeRow) (cells' : List (Cell R)) → row ≡ home_at home v
+      → longer.position ≡ row.position → longer.first ≡ cond (eqb row.entries 0) free row.first → longer.last ≡ free → longer.entries ≡ min (row.entries + 1) 4294967295
+      → (row.entries ≡ 0 → cells' ≡ set cells free (linked_cell row))
+      → ((d : Cell R) → 0 < row.entries → cell_at cells row.last ≡ Some d → cells' ≡ set (set cells row.last (with_after d free)) free (linked_cell row))
+      → Appended n swept used home cells v free e (set home v longer) cells'
+  appended_by row longer cells' is =
       subst (λ r.
-      r.entries ≢ 0 → entries ≡ min (r.entries + 1) 4294967295 → ((d : Cell R) → cell_at cells r.last ≡ Some d → mid ≡ set cells r.last (with_after d free))
-      → Appended n swept used home cells v free e (written r r.first entries) (set mid free (linked_cell r)))
-      (sym is) (λ some more after.
-      let there : 0 < (home_at home v).entries = omega arith in
-      let p = last_cell cells v (home_at home v).last missing missing (home_at home v).first (home_at home v).entries (can.sound.links.linked v can.place) there in
-      rw (held entries more, after p.0 p.1) (append_more p.0 there p.1))
+      longer.position ≡ r.position → longer.first ≡ cond (eqb r.entries 0) free r.first → longer.last ≡ free → longer.entries ≡ min (r.entries + 1) 4294967295
+      → (r.entries ≡ 0 → cells' ≡ set cells free (linked_cell r))
+      → ((d : Cell R) → 0 < r.entries → cell_at cells r.last ≡ Some d → cells' ≡ set (set cells r.last (with_after d free)) free (linked_cell r))
+      → Appended n swept used home cells v free e (set home v longer) cells')
+      (sym is) (λ p f l more one several.
+      let row' = home_at home v in
+      ⊎_elim
+      (λ none.
+      let first : longer.first ≡ free = f ∙ ap (λ b. cond b free row'.first) (eq-eqb row'.entries 0 none) in
+      rw (row_made longer _ _ _ _ p first l (held longer.entries more), one none) (append_first none))
+      (λ some.
+      let there : 0 < row'.entries = omega arith in
+      let d = last_cell cells v row'.last missing missing row'.first row'.entries (can.sound.links.linked v can.place) there in
+      let first : longer.first ≡ row'.first = f ∙ ap (λ b. cond b free row'.first) (ne_eqb row'.entries 0 some) in
+      rw (row_made longer _ _ _ _ p first l (held longer.entries more), several d.0 there d.1) (append_more d.0 there d.1))
+      (cases_eq row'.entries 0))

@@ -1,6 +1,6 @@
 -- The last entry of a sketch taken away.
-use Rattle.std.proofs.Common.{◌≡◌, ℕ, suc, ◌+◌, ◌-◌, ◌<◌, ◌≢◌, List, [], ◌∷◌, ◌++◌, set, Some, None, sym, refl, ap, ◌∙◌, subst, ⊎_elim, arith}
-use Rattle.std.proofs.lemmas.Bool.{cases_eq}
+use Rattle.std.proofs.Common.{◌≡◌, ℕ, suc, ◌+◌, ◌-◌, ◌<◌, cond, eqb, List, [], ◌∷◌, ◌++◌, set, Some, None, sym, refl, ap, ◌∙◌, subst, ⊎_elim, arith, eq-eqb}
+use Rattle.std.proofs.lemmas.Bool.{cases_eq, ne_eqb}
 use Rattle.tables.specs.declared.rows.HomeRow.{HomeRow}
 use Rattle.tables.specs.declared.rows.Cell.{Cell}
 use Rattle.tables.specs.declared.rows.Entry.{Entry}
@@ -11,7 +11,7 @@ use Rattle.tables.specs.Changes.{CanRemove, Removed, with_after, with_owner}
 use Rattle.tables.proofs.Rises.{Rises, rises_all, rising_from, rises_weaker}
 use Rattle.tables.proofs.Splices.{apart, lower, cell_far, cell_in, cell_set_same, cell_set_other, chain_stays, before_last, relinked, last_cell}
 use Rattle.tables.proofs.Counts.{entries_set, taken_same, taken_less, taken_few}
-use Rattle.tables.proofs.Rewrites.{here_sketch, other_sketches, all_linked, all_rising}
+use Rattle.tables.proofs.Rewrites.{here_sketch, other_sketches, all_linked, all_rising, row_made}
 
 module _ {R : Type 0} (n swept used : ℕ) (home : List HomeRow) (cells : List (Cell R)) (v : ℕ) (can : CanRemove n swept used home cells v)
     (k : ℕ) (one : (home_at home v).entries ≡ suc k) (d : Cell R) (at_last : cell_at cells (home_at home v).last ≡ Some d) where
@@ -110,30 +110,34 @@ module _ {R : Type 0} (n swept used : ℕ) (home : List HomeRow) (cells : List (
       last_cell cells v d.before row.last missing row.first (row.entries - 1)
       (cut n swept used home cells v can (row.entries - 1) (omega (arith, can.some)) d at_last).2.0 some
 
--- what the code writes is that: `row` is what it read of v, and `d` its last cell
+-- what the code writes is that: `row` is what it read of v, `d` its last cell, and `shorter` what it writes of v
 module _ {R : Type 0} (n swept used : ℕ) (home : List HomeRow) (cells : List (Cell R)) (v : ℕ) (can : CanRemove n swept used home cells v) where
-  abbrev shortened : HomeRow → ℕ → ℕ → ℕ → List HomeRow
-  shortened row first last entries = set home v (record { position = row.position; first = first; last = last; entries = entries })
-
-  pub removed_only : (row : HomeRow) (d : Cell R) (entries : ℕ) → row ≡ home_at home v → cell_at cells row.last ≡ Some d → entries ≡ row.entries - 1 → entries ≡ 0
-      → Removed n swept used home cells v (shortened row missing d.before entries) (set cells row.last (with_owner d n))
-  removed_only row d entries is =
+  pub removed_by : (row shorter : HomeRow) (d : Cell R) (cells' : List (Cell R)) → row ≡ home_at home v → cell_at cells row.last ≡ Some d
+      → shorter.position ≡ row.position → shorter.first ≡ cond (eqb (row.entries - 1) 0) missing row.first → shorter.last ≡ d.before → shorter.entries ≡ row.entries - 1
+      → (shorter.entries ≡ 0 → cells' ≡ set cells row.last (with_owner d n))
+      → ((b : Cell R) → 0 < shorter.entries → cell_at cells shorter.last ≡ Some b → cells' ≡ set (set cells shorter.last (with_after b missing)) row.last (with_owner d n))
+      → Removed n swept used home cells v (set home v shorter) cells'
+  removed_by row shorter d cells' is =
       subst (λ r.
-      cell_at cells r.last ≡ Some d → entries ≡ r.entries - 1 → entries ≡ 0
-      → Removed n swept used home cells v (shortened r missing d.before entries) (set cells r.last (with_owner d n)))
-      (sym is) (λ found less none. remove_only n swept used home cells v can entries (omega (arith, can.some)) d found none)
-
-  pub removed_more : (row : HomeRow) (d : Cell R) (entries : ℕ) (mid : List (Cell R)) → row ≡ home_at home v → cell_at cells row.last ≡ Some d
-      → entries ≡ row.entries - 1 → entries ≢ 0 → ((b : Cell R) → cell_at cells d.before ≡ Some b → mid ≡ set cells d.before (with_after b missing))
-      → Removed n swept used home cells v (shortened row row.first d.before entries) (set mid row.last (with_owner d n))
-  removed_more row d entries mid is =
-      subst (λ r.
-      cell_at cells r.last ≡ Some d → entries ≡ r.entries - 1 → entries ≢ 0
-      → ((b : Cell R) → cell_at cells d.before ≡ Some b → mid ≡ set cells d.before (with_after b missing))
-      → Removed n swept used home cells v (shortened r r.first d.before entries) (set mid r.last (with_owner d n)))
-      (sym is) (λ found less some after.
+      cell_at cells r.last ≡ Some d
+      → shorter.position ≡ r.position → shorter.first ≡ cond (eqb (r.entries - 1) 0) missing r.first → shorter.last ≡ d.before → shorter.entries ≡ r.entries - 1
+      → (shorter.entries ≡ 0 → cells' ≡ set cells r.last (with_owner d n))
+      → ((b : Cell R) → 0 < shorter.entries → cell_at cells shorter.last ≡ Some b → cells' ≡ set (set cells shorter.last (with_after b missing)) r.last (with_owner d n))
+      → Removed n swept used home cells v (set home v shorter) cells')
+      (sym is) (λ found p f l k only more.
+      let row' = home_at home v in
+      let one : row'.entries ≡ suc shorter.entries = omega (arith, can.some) in
+      ⊎_elim
+      (λ none.
+      let first : shorter.first ≡ missing = f ∙ ap (λ b. cond b missing row'.first) (eq-eqb (row'.entries - 1) 0 (omega arith)) in
+      rw (row_made shorter _ _ _ _ p first l refl, only none) (remove_only n swept used home cells v can shorter.entries one d found none))
+      (λ some.
+      let there : 0 < shorter.entries = omega arith in
       let b = before_there n swept used home cells v can d found (omega arith) in
-      rw (after b.0 b.1) (remove_more n swept used home cells v can entries (omega (arith, can.some)) d found b.0 (omega arith) b.1))
+      let first : shorter.first ≡ row'.first = f ∙ ap (λ b. cond b missing row'.first) (ne_eqb (row'.entries - 1) 0 (λ q. some (k ∙ q))) in
+      let at_b : cell_at cells shorter.last ≡ Some b.0 = ap (cell_at cells) l ∙ b.1 in
+      rw (row_made shorter _ _ _ _ p first l refl, more b.0 there at_b, l) (remove_more n swept used home cells v can shorter.entries one d found b.0 there b.1))
+      (cases_eq shorter.entries 0))
 
   pub removed_some : (row : HomeRow) → row ≡ home_at home v → cell_at cells row.last ≡ None → ⊥
   removed_some row is =

@@ -11,6 +11,11 @@ use Rattle.tables.specs.Changes.{OnlySketch}
 use Rattle.tables.proofs.Rises.{rises_all}
 use Rattle.tables.proofs.Splices.{chain_stays, nth_set_other}
 
+-- a row is what its fields are
+pub row_made : (row : HomeRow) (p f l k : ℕ) → row.position ≡ p → row.first ≡ f → row.last ≡ l → row.entries ≡ k
+    → row ≡ record { position = p; first = f; last = l; entries = k }
+row_made row p f l k a b c d = rw (← a, ← b, ← c, ← d)
+
 -- a row and cells written for v leave all else alone
 module _ (v : ℕ) (home : List HomeRow) (row : HomeRow) (position : row.position ≡ (home_at home v).position) where
   same_positions : (w : ℕ) → (home_at (set home v row) w).position ≡ (home_at home w).position

@@ -2,8 +2,6 @@
 ghost use Rattle.tables.specs.MatchingWalks.{LinkedAreMatching};
 
 /// A sketch is linked exactly if its walk forward matches its walk back, its ends, its owner and its number of entries.
-pub fn linked_are_matching<R>() -> u8
+pub fn linked_are_matching<R>()
     ensures { LinkedAreMatching R }
-{
-    0
-}
+{}

@@ -1,9 +1,6 @@
-use Rattle.std.proofs.Common.{sym, refl, ⊎_elim, arith}
-use Rattle.std.proofs.lemmas.List.{set_past}
+use Rattle.std.proofs.lemmas.List.{drop-set-lt}
+use Rattle.tables.specs.Rows.{missing}
 use Rattle.sketches.proofs.cells.put_cell.Goals as goal
 
-pub returns-else-at-lt-MISSING : goal.returns-else-at-lt-MISSING
-returns-else-at-lt-MISSING g c = record {
-  there = λ h. sym (set_past c.args.cells.now c.args.at c.args.cell (⊎_elim (λ p. p.1) (λ p. omega arith) c.else-at-lt-MISSING.either));
-  surplus = λ h. refl;
-}
+pub returns-then-here-cells-clause-surplus : goal.returns-then-here-cells-clause-surplus
+returns-then-here-cells-clause-surplus g c = drop-set-lt missing c.args.cells.now c.args.at c.args.cell c.if-at-lt-MISSING.true

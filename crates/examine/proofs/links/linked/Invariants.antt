@@ -1,9 +1,0 @@
-use Rattle.std.proofs.Common.{◌-◌}
-use Rattle.tables.specs.Rows.{missing}
-use Rattle.tables.specs.Walks.{Chain, Linked}
-use Rattle.tables.proofs.Chains.{Same}
-use Rattle.examine.proofs.links.linked.Given as goal
-
--- the sketch is linked exactly if what is left of it is
-abbrev pub invariant-loop : goal.invariant-loop
-invariant-loop g l = Same (Linked l.home l.cells l.v) (Chain l.cells l.v l.row.last missing l.before l.at (l.row.entries - l.counter))

@@ -1,0 +1,9 @@
+//! The test of places: a map given has n places.
+ghost use Rattle.std.specs.Prelude.{◌↔◌, IsTrue};
+ghost use Rattle.tables.specs.Tests.{PlacesTest};
+
+pub(crate) fn places_hold(n: u16, given: Option<usize>) -> bool
+    ensures { IsTrue result ↔ PlacesTest n given }
+{
+    given.is_none_or(|places| places == n as usize)
+}
