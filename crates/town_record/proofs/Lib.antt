@@ -1,4 +1,5 @@
-pub mod EachByte
+pub mod Printed
 pub mod Spelled
 pub mod Tells
+pub mod Told
 pub mod Whole

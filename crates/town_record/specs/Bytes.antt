@@ -1,5 +1,6 @@
 -- Bytes, and the numbers that stand in them big-endian: the most significant byte first.
-use Rattle.std.specs.Prelude.{ℕ, ◌+◌, ◌*◌, ◌/◌, ◌%◌, Bool, true, ◌&&◌, List, [], ◌∷◌, ◌==◌, slice_index}
+use Rattle.std.specs.List.{list_all}
+use Rattle.std.specs.Prelude.{ℕ, ◌+◌, ◌*◌, ◌/◌, ◌%◌, Bool, List, [], ◌∷◌, ◌==◌, slice_index}
 
 -- the byte of a number, counted from 0
 abbrev pub byte : List ℕ → ℕ → ℕ
@@ -21,5 +22,4 @@ four_bytes n = (n / 16777216 % 256) ∷ (n / 65536 % 256) ∷ (n / 256 % 256) �
 
 -- all bytes are zero
 abbrev pub all_zero : List ℕ → Bool
-all_zero [] = true
-all_zero (b ∷ bs) = b == 0 && all_zero bs
+all_zero bs = list_all (λ b. b == 0) bs

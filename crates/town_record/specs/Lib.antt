@@ -2,6 +2,7 @@ pub mod Bytes
 pub mod ByteLaws
 pub mod Entries
 pub mod FileForms
+pub mod Kinds
 pub mod Measures
 pub mod Names
 pub mod Parts

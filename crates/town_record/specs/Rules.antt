@@ -1,9 +1,9 @@
 -- The rules of a town file, record by record. A rule is broken or not by a record and by what stands before it.
-use Rattle.std.specs.Prelude.{◌≡◌, ℕ, ◌-◌, ◌<◌, Bool, true, false, not, ◌&&◌, ◌||◌, List, [], ◌∷◌, length, is_some, ◌==◌, nat_le, nat_lt}
+use Rattle.std.specs.Prelude.{◌≡◌, ℕ, ◌-◌, ◌<◌, Bool, true, false, not, ◌&&◌, ◌||◌, List, length, is_some, ◌==◌, nat_le, nat_lt}
 use Rattle.fault.specs.Refusals.{file_refusal}
 use Rattle.fault.specs.declared.file.FileFault.{FileFault}
 use Rattle.fault.specs.declared.file.FileFault.TheVariants as faults
-use Rattle.std.specs.List.{between}
+use Rattle.std.specs.List.{between, list_all}
 use Rattle.town_record.specs.Bytes.{byte, all_zero}
 use Rattle.town_record.specs.FileForms.{FileForm}
 use Rattle.town_record.specs.Parts.{is_place, is_arc, rank_of, name_of, from_of, to_of, length_bytes}
@@ -17,8 +17,7 @@ abbrev pub printable : ℕ → Bool
 printable b = nat_le 32 b && nat_le b 126
 
 abbrev pub all_printable : List ℕ → Bool
-all_printable [] = true
-all_printable (b ∷ bs) = printable b && all_printable bs
+all_printable bs = list_all printable bs
 
 abbrev pub good_name : List ℕ → Bool
 good_name bs = not (byte bs 0 == 32) && all_printable bs

@@ -1,7 +1,7 @@
 //! What a record is judged by besides its own bytes.
 
 /// What stands in a file before a record.
-#[derive(Clone, Copy)]
+#[derive(Clone, Copy, PartialEq, Eq, Debug)]
 pub struct Before {
     /// How many places.
     pub places: usize,
@@ -12,7 +12,9 @@ pub struct Before {
 }
 
 /// How many places and arcs a file may have.
-#[derive(Clone, Copy)]
+///
+/// Not one struct with `Before`: the limits stand for a whole file, and what stands before changes with each record.
+#[derive(Clone, Copy, PartialEq, Eq, Debug)]
 pub struct Limits {
     pub places: usize,
     pub arcs: usize,

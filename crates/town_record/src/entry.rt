@@ -5,7 +5,7 @@ use crate::name::Name;
 pub mod read;
 
 /// A place with its rank and name, or an arc.
-#[derive(Clone, Copy)]
+#[derive(Clone, Copy, PartialEq, Eq, Debug)]
 pub enum Entry<M> {
     Place(u32, Name),
     Arc(ArcRow<M>),

@@ -1,5 +1,5 @@
 //! Measures that can stand in a file.
-ghost use Rattle.std.specs.Prelude.{◌≡◌, ◌-◌, drop};
+ghost use Rattle.std.specs.Prelude.{◌≡◌, ℕ, ◌-◌, drop};
 ghost use Rattle.town_record.specs.FileForms.{FileForm};
 
 use measure::Measure;
@@ -13,12 +13,11 @@ pub trait FileMeasure: Measure {
     /// How many of the eight bytes are used: the rightmost ones.
     const BYTES: usize;
 
+    /// The same number, for contracts and proofs.
+    ghost BYTES: { ℕ };
+
     /// How lengths stand in a file, with both ways there and back.
     ghost form: { FileForm Self };
-
-    /// The constant `BYTES`, with its value in the contract: a constant alone carries none.
-    fn bytes_used() -> usize
-        ensures { result ≡ form.used };
 
     /// The length in a field, if its used bytes hold one.
     fn read_bytes(field: [u8; 8]) -> Option<Self>
@@ -27,4 +26,7 @@ pub trait FileMeasure: Measure {
     /// A field whose used bytes are those of this length.
     fn write_bytes(self) -> [u8; 8]
         ensures { drop (8 - form.used) result ≡ form.bytes_of self };
+
+    /// As many bytes are used as the form says.
+    ghost uses: { BYTES ≡ form.used };
 }

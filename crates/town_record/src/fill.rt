@@ -4,6 +4,7 @@ ghost use Rattle.town_record.specs.Parts.{place_record, arc_record};
 
 use crate::arc_row::ArcRow;
 use crate::file_measure::FileMeasure;
+use crate::kind::{ARC, PLACE};
 use crate::name::Name;
 
 /// The record of a place.
@@ -12,17 +13,15 @@ pub fn place_record(rank: u32, name: Name) -> [u8; 16]
 {
     let [a, b, c, d] = rank.to_be_bytes();
     let [n0, n1, n2, n3, n4, n5, n6, n7] = name.bytes();
-    [b'P', 0, 0, 0, a, b, c, d, n0, n1, n2, n3, n4, n5, n6, n7]
+    [PLACE, 0, 0, 0, a, b, c, d, n0, n1, n2, n3, n4, n5, n6, n7]
 }
 
 /// The field of a length: zeros, and the used bytes at the right.
 fn length_field<M: FileMeasure>(length: M) -> [u8; 8]
     ensures { result ≡ replicate (8 - M.FileMeasure.form.used) 0 ++ M.FileMeasure.form.bytes_of «length» }
 {
-    let bytes = length.write_bytes();
-    let unused = 8 - M::bytes_used();
-    let mut field = [0; 8];
-    field[unused..8].copy_from_slice(&bytes[unused..8]);
+    let mut field = length.write_bytes();
+    field[..8 - M::BYTES].fill(0);
     field
 }
 
@@ -33,5 +32,5 @@ pub fn arc_record<M: FileMeasure>(arc: ArcRow<M>) -> [u8; 16]
     let [f0, f1] = arc.from.to_be_bytes();
     let [t0, t1] = arc.to.to_be_bytes();
     let [a, b, c, d, e, f, g, h] = length_field(arc.length);
-    [b'A', 0, f0, f1, t0, t1, 0, 0, a, b, c, d, e, f, g, h]
+    [ARC, 0, f0, f1, t0, t1, 0, 0, a, b, c, d, e, f, g, h]
 }

@@ -3,10 +3,10 @@
 
 pub mod arc_row;
 pub mod before;
-mod check;
 pub mod entry;
 pub mod file_measure;
 pub mod fill;
+mod kind;
 pub mod name;
 mod parts;
 pub mod rule;

@@ -2,10 +2,11 @@
 ghost use Rattle.std.specs.Prelude.{◌≡◌, true, length, ◌≢◌, slice_index};
 ghost use Rattle.town_record.specs.Rules.{all_printable};
 
+pub mod show;
 pub mod text;
 
 /// A name: eight printable bytes, the first never a space, trailing spaces fill up.
-#[derive(Clone, Copy)]
+#[derive(Clone, Copy, PartialEq, Eq, Debug)]
 pub struct Name {
     bytes: [u8; 8],
     ghost sized: { length bytes ≡ 8 },

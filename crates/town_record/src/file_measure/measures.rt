@@ -1,5 +1,5 @@
 //! Seconds, rise and fares in a file: 4, 2 and 8 bytes.
-ghost use Rattle.std.specs.Prelude.{◌≡◌, if◌then◌else◌, Some, None, nat_le};
+ghost use Rattle.std.specs.Prelude.{refl};
 ghost use Rattle.town_record.specs.Measures.{seconds_form, rise_form, fares_form};
 
 use super::FileMeasure;
@@ -10,14 +10,14 @@ use measure::seconds::Seconds;
 impl FileMeasure for Seconds {
     const BYTES: usize = 4;
 
+    ghost BYTES = { 4 };
+
     ghost form = { seconds_form };
 
-    fn bytes_used() -> usize {
-        Self::BYTES
-    }
+    ghost uses = { refl };
 
     fn read_bytes(field: [u8; 8]) -> Option<Seconds> {
-        let [_, _, _, _, a, b, c, d] = field;
+        let [.., a, b, c, d] = field;
         Some(Seconds::new(u32::from_be_bytes([a, b, c, d])))
     }
 
@@ -30,14 +30,14 @@ impl FileMeasure for Seconds {
 impl FileMeasure for Rise {
     const BYTES: usize = 2;
 
+    ghost BYTES = { 2 };
+
     ghost form = { rise_form };
 
-    fn bytes_used() -> usize {
-        Self::BYTES
-    }
+    ghost uses = { refl };
 
     fn read_bytes(field: [u8; 8]) -> Option<Rise> {
-        let [_, _, _, _, _, _, a, b] = field;
+        let [.., a, b] = field;
         Some(Rise::new(u16::from_be_bytes([a, b])))
     }
 
@@ -47,29 +47,18 @@ impl FileMeasure for Rise {
     }
 }
 
-/// A number of zones, if it is at most 65,535.
-fn zones_of(number: u32) -> Option<u16>
-    ensures { result ≡ (if nat_le number 65535 then Some number else None) }
-{
-    if number > 65535 {
-        None
-    } else {
-        Some(number as u16)
-    }
-}
-
 impl FileMeasure for Fares {
     const BYTES: usize = 8;
 
+    ghost BYTES = { 8 };
+
     ghost form = { fares_form };
 
-    fn bytes_used() -> usize {
-        Self::BYTES
-    }
+    ghost uses = { refl };
 
     fn read_bytes(field: [u8; 8]) -> Option<Fares> {
         let [a, b, c, d, e, f, g, h] = field;
-        let zones = zones_of(u32::from_be_bytes([a, b, c, d]))?;
+        let zones = u16::try_from(u32::from_be_bytes([a, b, c, d])).ok()?;
         let seconds = Seconds::new(u32::from_be_bytes([e, f, g, h]));
         Some(Fares::new(zones, seconds))
     }

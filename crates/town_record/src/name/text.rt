@@ -1,29 +1,16 @@
-//! Making a name of bytes, and the bytes of a name.
-ghost use Rattle.std.specs.Prelude.{◌≡◌, true, false, length, MatchOption};
-ghost use Rattle.town_record.specs.Names.{Kept};
-ghost use Rattle.town_record.specs.Rules.{good_name, printable, all_printable};
+//! Making a name of eight bytes, and those bytes.
+ghost use Rattle.std.specs.Prelude.{◌≡◌, true, false, MatchOption};
+ghost use Rattle.town_record.specs.Rules.{good_name, all_printable};
 
 use super::Name;
 
-const SPACE: u8 = 32;
+const SPACE: u8 = b' ';
 
-/// Whether a byte is printable: 20 to 7E hexadecimal.
-fn is_printable(b: u8) -> bool
-    ensures { result ≡ printable b }
-{
-    b >= 0x20 && b <= 0x7e
-}
-
-/// Whether all bytes are printable.
+/// Whether all bytes are printable: 20 to 7E hexadecimal.
 fn all_printable(bytes: &[u8]) -> bool
     ensures { result ≡ all_printable bytes.now }
 {
-    for b in bytes {
-        if !is_printable(*b) {
-            return false;
-        }
-    }
-    true
+    bytes.iter().all(|b| matches!(b, 0x20..=0x7e))
 }
 
 impl Name {
@@ -42,16 +29,5 @@ impl Name {
         ensures { result ≡ self.bytes }
     {
         self.bytes
-    }
-
-    /// The bytes without the trailing spaces: 1 to 8, the last of them no space.
-    pub fn trimmed(&self) -> &[u8]
-        ensures { Kept self.now.bytes result.now }
-    {
-        let mut end: usize = 8;
-        while end > 1 && self.bytes[end - 1] == SPACE {
-            end -= 1;
-        }
-        &self.bytes[0..end]
     }
 }

@@ -7,6 +7,7 @@ use fault::file::FileFault;
 
 impl Rule {
     /// The fault of breaking this rule at a record, counted from 0.
+    /// Not a `From`: the fault needs the record beside the rule, and a pair of both would read no plainer.
     pub fn at(self, record: usize) -> FileFault
         ensures { result ≡ fault self «record» }
     {
