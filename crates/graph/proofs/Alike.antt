@@ -3,13 +3,9 @@ use Rattle.std.proofs.Common.{◌≡◌, ℕ, suc, ◌<◌, ◌≤◌, List, [],
 use mathlib.Core.HLevel.{is_prop→PathP}
 use native.Mathlib.Bridge.{le_prop}
 use native.Mathlib.Nat.{ℕ_set}
-use Rattle.std.specs.List.{AllByRecursion, slice_get}
+use Rattle.std.specs.List.{AllByRecursion, AllByRecursion-prop, slice_get}
 use Rattle.graph.specs.Graphs.{Graph}
 use Rattle.graph.specs.Alike.{SameArcs, SameAnswers}
-
-all_prop : {X : Type 0} (P : X → Type 0) → ((x : X) → IsProp (P x)) → (xs : List X) → IsProp (AllByRecursion P xs)
-all_prop P f [] p q = refl
-all_prop P f (x ∷ xs) p q = λ i. (f x p.0 q.0 i, all_prop P f xs p.1 q.1 i)
 
 -- lists with the same answers are one
 nth_same : {X : Type 0} (xs ys : List X) → ((i : ℕ) → slice_get xs i ≡ slice_get ys i) → xs ≡ ys
@@ -24,7 +20,7 @@ same_graph g h same = λ i. record {
   arriving = λ w. same.arcs w i;
   some = is_prop→PathP (λ j. 1 ≤ same.as_many j) (λ j. le_prop) g.some h.some i;
   few = is_prop→PathP (λ j. same.as_many j ≤ 4096) (λ j. le_prop) g.few h.few i;
-  inside = λ w. is_prop→PathP (λ j. AllByRecursion (λ a. a.from < same.as_many j) (same.arcs w j)) (λ j. all_prop (λ a. a.from < same.as_many j) (λ a. le_prop) (same.arcs w j)) (g.inside w) (h.inside w) i;
+  inside = λ w. is_prop→PathP (λ j. AllByRecursion (λ a. a.from < same.as_many j) (same.arcs w j)) (λ j. AllByRecursion-prop (λ a. a.from < same.as_many j) (λ a. le_prop) (same.arcs w j)) (g.inside w) (h.inside w) i;
   beyond = λ w. is_prop→PathP (λ j. same.as_many j ≤ w → length (same.arcs w j) ≡ 0) (λ j p q. λ k x. ℕ_set (length (same.arcs w j)) 0 (p x) (q x) k) (g.beyond w) (h.beyond w) i;
 }
 

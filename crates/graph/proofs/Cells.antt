@@ -1,21 +1,37 @@
 -- Cells of a grid: the place of a cell taken apart again, the places beside it, and what they are sources of.
-use Rattle.std.proofs.Common.{◌≡◌, ℕ, ◌+◌, ◌-◌, ◌*◌, ◌/◌, ◌%◌, ◌<◌, Bool, true, false, cond, ◌&&◌, T, ltb, List, [], ◌∷◌, ◌++◌, map, length, get_or, take, Some, Option, sym, refl, ap, ◌∙◌, subst, subst₂, add-mul, one-mul, arith, ltb→lt}
-use Rattle.std.specs.List.{slice_get}
+use Rattle.std.proofs.Common.{◌≡◌, ℕ, ◌+◌, ◌-◌, ◌*◌, ◌/◌, ◌%◌, ◌<◌, Bool, true, false, cond, ◌&&◌, T, ltb, List, [], ◌∷◌, ◌++◌, map, get_or, take, Some, None, Option, option_to_list, is_some, IfSome, sym, refl, ap, ◌∙◌, subst₂, add-mul, one-mul, arith, ltb→lt}
+use Rattle.std.specs.Bool.{then_some}
+use Rattle.std.specs.List.{slice_get, flat_map}
+use Rattle.std.specs.Option.{option_and_then}
 use Rattle.std.proofs.lemmas.Nat.{div-add-mod', div_below, mod_below, div-mul-add, mod-mul-add}
-use Rattle.std.proofs.lemmas.List.{append_assoc, get_or-take, length-map}
+use Rattle.std.proofs.lemmas.List.{append-nil, get_or-take}
 use Rattle.std.proofs.lemmas.Bool.{cond-true, lt-ltb}
-use Rattle.measure.specs.SecondsLaws.{seconds, same_seconds}
-use Rattle.measure.specs.declared.seconds.Seconds.{Seconds}
+use Rattle.measure.specs.SecondsLaws.{seconds}
 use Rattle.graph.specs.Grids.{cell, is_open, source, sources, entering, GridMeaning}
 use Rattle.graph.specs.GridGraphs.{cell_inside, sources_of, sources_of_inside, arcs_to, grid_graph}
-use Rattle.graph.specs.declared.arc.Arc.{Arc}
 use Rattle.graph.specs.declared.grid.Grid.{Grid}
-use Rattle.graph.proofs.Lists.{all_in, nth_in, nth_map}
+use Rattle.graph.proofs.Lists.{all_in, nth_in}
 
 -- a source matters only where it exists
 source_same : (bytes : List ℕ) (exists : Bool) (p q : ℕ) → (T exists → p ≡ q) → source bytes exists p ≡ source bytes exists q
 source_same bytes true p q h = ap (source bytes true) (h tt)
 source_same bytes false p q h = refl
+
+-- a place, if there is one and it is not barred
+abbrev pub if_open : List ℕ → Option ℕ → Option ℕ
+if_open bytes = option_and_then (λ p. then_some (is_open bytes p) p)
+
+-- a place that may be missing: there exactly if it exists
+abbrev pub PlaceIf : Bool → ℕ → Option ℕ → Type 0
+PlaceIf exists p o = (is_some o ≡ exists) × IfSome o (λ q. q ≡ p)
+
+source_if_open : (bytes : List ℕ) (exists : Bool) (p : ℕ) (o : Option ℕ) → PlaceIf exists p o → option_to_list (if_open bytes o) ≡ source bytes exists p
+source_if_open bytes exists p None is = ap (λ b. source bytes b p) is.0
+source_if_open bytes exists p (Some q) is = go (is_open bytes q) ∙ (λ i. source bytes (is.0 i) (is.1 i))
+  where
+    go : (b : Bool) → option_to_list (then_some b q) ≡ cond (true && b) (q ∷ []) []
+    go true = refl
+    go false = refl
 
 pred_row : (row columns : ℕ) → 0 < row → (row - 1) * columns + columns ≡ row * columns
 pred_row row columns h =
@@ -44,53 +60,28 @@ module _ (rows columns place : ℕ) (some : 0 < columns) (inside : place < rows 
   below_is : place + columns ≡ cell columns (place / columns + 1) (place % columns)
   below_is = omega (arith, here_is, add-mul (place / columns) 1 columns, one-mul columns)
 
-  -- the places beside it lie inside
-  pub right_inside : place % columns + 1 < columns → place + 1 < rows * columns
-  right_inside h = subst (λ p. p < rows * columns) (sym right_is) (cell_inside rows columns (place / columns) (place % columns + 1) row_inside h)
-
-  pub below_inside : place / columns + 1 < rows → place + columns < rows * columns
-  below_inside h = subst (λ p. p < rows * columns) (sym below_is) (cell_inside rows columns (place / columns + 1) (place % columns) h column_inside)
-
-  -- the sources listed one after another are those of the place
-  pub all_sources : (bytes all : List ℕ) (up back : ℕ) → is_open bytes place ≡ true → up ≡ place - columns → back ≡ place - 1 →
-      all ≡ ((source bytes (ltb 0 (place / columns)) up ++ source bytes (ltb 0 (place % columns)) back) ++ source bytes (ltb (place % columns + 1) columns) (place + 1))
-      ++ source bytes (ltb (place / columns + 1) rows) (place + columns) →
-      all ≡ sources_of rows columns bytes place
-  all_sources bytes all up back free up_is back_is is =
-      is ∙ append_assoc (s1 up ++ s2 back) (s3 (place + 1)) (s4 (place + columns)) ∙ append_assoc (s1 up) (s2 back) (s3 (place + 1) ++ s4 (place + columns))
-      ∙ (λ i. a1 i ++ (a2 i ++ (a3 i ++ a4 i)))
+  -- the places beside it that are not barred are its sources
+  pub all_sources : (bytes : List ℕ) (above left right below : Option ℕ) → is_open bytes place ≡ true → PlaceIf (ltb 0 (place / columns)) (place - columns) above →
+      PlaceIf (ltb 0 (place % columns)) (place - 1) left → PlaceIf (ltb (place % columns + 1) columns) (place + 1) right → PlaceIf (ltb (place / columns + 1) rows) (place + columns) below →
+      flat_map option_to_list (map (if_open bytes) (above ∷ left ∷ right ∷ below ∷ [])) ≡ sources_of rows columns bytes place
+  all_sources bytes above left right below free up back on down =
+      (λ i. a1 i ++ (a2 i ++ (a3 i ++ a4 i)))
       ∙ sym (cond-true (ltb place (rows * columns)) _ [] (lt-ltb _ _ inside) ∙ cond-true (is_open bytes (cell columns (place / columns) (place % columns))) _ [] not_barred)
     where
-      s1 : ℕ → List ℕ
-      s1 = source bytes (ltb 0 (place / columns))
-
-      s2 : ℕ → List ℕ
-      s2 = source bytes (ltb 0 (place % columns))
-
-      s3 : ℕ → List ℕ
-      s3 = source bytes (ltb (place % columns + 1) columns)
-
-      s4 : ℕ → List ℕ
-      s4 = source bytes (ltb (place / columns + 1) rows)
-
       not_barred : is_open bytes (cell columns (place / columns) (place % columns)) ≡ true
       not_barred = ap (is_open bytes) here_is ∙ free
 
-      a1 : s1 up ≡ s1 (cell columns (place / columns - 1) (place % columns))
-      a1 = source_same bytes (ltb 0 (place / columns)) _ _ (λ t. up_is ∙ above_is (ltb→lt 0 (place / columns) t))
+      a1 : option_to_list (if_open bytes above) ≡ source bytes (ltb 0 (place / columns)) (cell columns (place / columns - 1) (place % columns))
+      a1 = source_if_open bytes _ _ above up ∙ source_same bytes (ltb 0 (place / columns)) _ _ (λ t. above_is (ltb→lt 0 (place / columns) t))
 
-      a2 : s2 back ≡ s2 (cell columns (place / columns) (place % columns - 1))
-      a2 = source_same bytes (ltb 0 (place % columns)) _ _ (λ t. back_is ∙ left_is (ltb→lt 0 (place % columns) t))
+      a2 : option_to_list (if_open bytes left) ≡ source bytes (ltb 0 (place % columns)) (cell columns (place / columns) (place % columns - 1))
+      a2 = source_if_open bytes _ _ left back ∙ source_same bytes (ltb 0 (place % columns)) _ _ (λ t. left_is (ltb→lt 0 (place % columns) t))
 
-      a3 : s3 (place + 1) ≡ s3 (cell columns (place / columns) (place % columns + 1))
-      a3 = ap s3 right_is
+      a3 : option_to_list (if_open bytes right) ≡ source bytes (ltb (place % columns + 1) columns) (cell columns (place / columns) (place % columns + 1))
+      a3 = source_if_open bytes _ _ right on ∙ ap (source bytes (ltb (place % columns + 1) columns)) right_is
 
-      a4 : s4 (place + columns) ≡ s4 (cell columns (place / columns + 1) (place % columns))
-      a4 = ap s4 below_is
-
--- as many arcs as sources
-pub arcs_count : (g : Grid) (place : ℕ) (froms : List ℕ) → froms ≡ sources_of g.rows g.columns g.bytes place → length froms ≡ length ((grid_graph g).arriving place)
-arcs_count g place froms is = ap length is ∙ sym (length-map (sources_of g.rows g.columns g.bytes place) (entering g.bytes place))
+      a4 : option_to_list (if_open bytes below) ++ [] ≡ source bytes (ltb (place / columns + 1) rows) (cell columns (place / columns + 1) (place % columns))
+      a4 = append-nil _ ∙ source_if_open bytes _ _ below down ∙ ap (source bytes (ltb (place / columns + 1) rows)) below_is
 
 -- a source is a place
 pub source_inside : (g : Grid) (place i from : ℕ) → slice_get (sources_of g.rows g.columns g.bytes place) i ≡ Some from → from < g.rows * g.columns
@@ -105,13 +96,6 @@ has_source rows columns bytes place i from = go (ltb place (rows * columns)) (lt
     go : (t : Bool) → (T t → place < rows * columns) → slice_get (cond t (sources rows columns bytes (place / columns) (place % columns)) []) i ≡ Some from → place < rows * columns
     go true h e = h tt
     go false h e = absurd (let z : ◌≡◌ {A = ℕ} 0 1 = cc in omega arith)
-
--- an arc from a source, as long as the byte of the cell entered, is the one that arrives
-pub arc_at : (bytes : List ℕ) (place : ℕ) (froms : List ℕ) (i from : ℕ) (a : Arc Seconds) → slice_get froms i ≡ Some from → a.from ≡ from → a.length.count ≡ get_or bytes place 0 →
-    ◌≡◌ {A = Option (Arc Seconds)} (Some a) (slice_get (map (entering bytes place) froms) i)
-arc_at bytes place froms i from a e f b =
-    (λ j. Some (record { from = f j; length = same_seconds a.length (seconds (get_or bytes place 0)) (omega (arith, a.length.fits)) j }))
-    ∙ sym (nth_map (entering bytes place) froms i from e)
 
 -- grids of the same bytes, as far as the cells go, mean the same
 module _ (rows columns : ℕ) (kept bytes : List ℕ) (same : (k : ℕ) → k < rows * columns → get_or kept k 0 ≡ get_or bytes k 0) where
@@ -146,9 +130,9 @@ module _ (rows columns : ℕ) (kept bytes : List ℕ) (same : (k : ℕ) → k < 
       ∙ ap (λ b. map (λ from. record { from = from; length = seconds b }) (sources rows columns bytes row column)) (same p i)
 
 -- what a grid means that keeps the first bytes given
-pub grid_means : (g : Grid) (rows columns : ℕ) (kept bytes : List ℕ) → g.rows ≡ rows → g.columns ≡ columns → g.bytes ≡ kept → take (rows * columns) kept ≡ take (rows * columns) bytes →
+pub grid_means : (g : Grid) (rows columns : ℕ) (bytes : List ℕ) → g.rows ≡ rows → g.columns ≡ columns → take (rows * columns) g.bytes ≡ take (rows * columns) bytes →
     GridMeaning rows columns bytes (grid_graph g)
-grid_means g rows columns kept bytes r c b same =
+grid_means g rows columns bytes r c same =
     subst₂ (λ m n. GridMeaning m n bytes (grid_graph g)) r c
     (record { as_many = refl; arcs = arcs_kept g.rows g.columns g.bytes bytes cells })
   where
@@ -156,4 +140,4 @@ grid_means g rows columns kept bytes r c b same =
     cells k h =
         let n : ℕ = rows * columns in
         let e : g.rows * g.columns ≡ rows * columns = λ i. r i * c i in
-        ap (λ l. get_or l k 0) b ∙ sym (get_or-take n kept k 0 (omega arith)) ∙ ap (λ l. get_or l k 0) same ∙ get_or-take n bytes k 0 (omega arith)
+        sym (get_or-take n g.bytes k 0 (omega arith)) ∙ ap (λ l. get_or l k 0) same ∙ get_or-take n bytes k 0 (omega arith)

@@ -5,6 +5,5 @@ pub mod Kinds
 pub mod LeastLengths
 pub mod Grids
 pub mod GridGraphs
-pub mod GridSources
 pub mod WayLaws
 pub mod Alike

@@ -12,6 +12,7 @@ mod sources;
 pub struct Grid {
     rows: usize,
     columns: usize,
+    // An array of its own: a `Vec` can run out of memory, and borrowed bytes would have to outlive the grid.
     bytes: [u8; 4096],
     ghost some_rows: { 1 ≤ rows },
     ghost few_rows: { rows ≤ 64 },

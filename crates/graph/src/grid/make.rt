@@ -18,45 +18,38 @@ impl Grid {
     pub fn new(rows: u32, columns: u32, bytes: &[u8]) -> Result<Grid, AtlasFault>
         ensures { MatchResult result (λ grid. Clear (grid_causes rows columns (length bytes.now)) × GridMeaning rows columns bytes.now (grid_graph grid)) (λ f. Refused (grid_causes rows columns (length bytes.now)) (atlas_refusal f)) }
     {
-        if rows < 1 || rows > MOST {
-            return Err(AtlasFault::SideOutOfBounds(rows));
-        }
-        if columns < 1 || columns > MOST {
-            return Err(AtlasFault::SideOutOfBounds(columns));
-        }
-        let needed = rows as usize * columns as usize;
-        if bytes.len() < needed {
-            return Err(AtlasFault::TooShort(needed));
-        }
-        Ok(Grid::of(rows, columns, first(bytes, needed)))
+        let (rows, columns) = (side(rows)?, side(columns)?);
+        let needed = rows * columns;
+        let cells = bytes.get(..needed).ok_or(AtlasFault::TooShort(needed))?;
+        Ok(Grid::of(rows, columns, cells))
     }
 
-    /// The grid of so many rows and columns with these bytes.
-    fn of(rows: u32, columns: u32, cells: [u8; 4096]) -> Grid
+    /// The grid of so many rows and columns with the bytes of these cells, and zeros after them.
+    fn of(rows: usize, columns: usize, cells: &[u8]) -> Grid
         requires rows { Side rows }
         requires columns { Side columns }
-        requires whole { length cells ≡ 4096 }
+        requires cells { length cells.now ≤ 4096 }
         ensures rows { result.rows ≡ rows }
         ensures columns { result.columns ≡ columns }
-        ensures bytes { result.bytes ≡ cells }
+        ensures bytes { take (length cells.now) result.bytes ≡ cells.now }
     {
-        let (rows, columns) = (rows as usize, columns as usize);
+        let mut bytes = [0; 4096];
+        bytes[..cells.len()].copy_from_slice(cells);
         Grid {
             rows,
             columns,
-            bytes: cells,
+            bytes,
         }
     }
 }
 
-/// The first so many of some bytes, and zeros after them.
-fn first(bytes: &[u8], count: usize) -> [u8; 4096]
-    requires given { count ≤ length bytes.now }
-    requires room { count ≤ 4096 }
-    ensures whole { length result ≡ 4096 }
-    ensures same { take count result ≡ take count bytes.now }
+/// A side, if it is 1 to 64.
+fn side(length: u32) -> Result<usize, AtlasFault>
+    ensures { MatchResult result (λ side. (side ≡ length) × Side length) (λ fault. (fault ≡ AtlasFault.SideOutOfBounds length) × (Side length → ⊥)) }
 {
-    let mut copy = [0; 4096];
-    copy[..count].copy_from_slice(&bytes[..count]);
-    copy
+    if (1..=MOST).contains(&length) {
+        Ok(length as usize)
+    } else {
+        Err(AtlasFault::SideOutOfBounds(length))
+    }
 }
