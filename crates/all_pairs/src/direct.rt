@@ -1,10 +1,10 @@
 //! The ways of one arc at most.
-ghost use Rattle.std.specs.Prelude.{◌*◌, ◌<◌, ◌≤◌, [], length};
+ghost use Rattle.std.specs.Prelude.{◌≡◌, ◌*◌, ◌<◌, []};
 ghost use Rattle.graph.specs.Kinds.{Direct, Right};
 ghost use Rattle.all_pairs.specs.Tables.{RightBelow, SameFrom};
 
 use crate::length::shorter;
-use crate::table::put;
+use crate::table::Table;
 use graph::map::Map;
 use measure::Measure;
 
@@ -27,14 +27,17 @@ fn shortest<M: Map>(map: &M, v: usize, w: usize) -> Option<M::Length>
     least
 }
 
-/// Fills a table with the ways of one arc at most.
-pub(crate) fn fill<M: Map>(map: &M, table: &mut [Option<<M::Length as Measure>::Row>])
-    requires { (M.Map.graph map.now).places * (M.Map.graph map.now).places ≤ length table.old }
-    ensures right { RightBelow M.Length.Measure.laws M.Length.Measure.encoding (M.Map.graph map.now) [] table.new ((M.Map.graph map.now).places * (M.Map.graph map.now).places) }
-    ensures rest { SameFrom ((M.Map.graph map.now).places * (M.Map.graph map.now).places) table.old table.new }
+/// Fills the table of a map with the ways of one arc at most.
+pub(crate) fn fill<M: Map>(map: &M, table: &mut Table<M::Length>)
+    requires { table.old.places ≡ (M.Map.graph map.now).places }
+    ensures same_reference { table.new.rows.ghost_name ≡ table.old.rows.ghost_name }
+    ensures same_places { table.new.places ≡ table.old.places }
+    ensures right { RightBelow M.Length.Measure.laws M.Length.Measure.encoding (M.Map.graph map.now) [] table.new.rows.now (table.old.places * table.old.places) }
+    ensures rest { SameFrom (table.old.places * table.old.places) table.old.rows.now table.new.rows.now }
 {
-    let n = map.places();
-    for k in 0..n * n {
-        put(table, n, k / n, k % n, shortest(map, k / n, k % n));
+    let places = table.places;
+    for k in 0..places * places {
+        let (v, w) = (k / places, k % places);
+        table.put(v, w, shortest(map, v, w));
     }
 }

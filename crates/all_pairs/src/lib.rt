@@ -12,6 +12,7 @@ ghost use Rattle.all_pairs.specs.Tables.{Accepted, Rejected, table_causes};
 use fault::atlas::AtlasFault;
 use graph::map::Map;
 use measure::Measure;
+use table::Table;
 
 mod by_way_of;
 mod direct;
@@ -30,10 +31,14 @@ pub fn least_lengths<M: Map>(
     ensures least { (v w : ℕ) → LeastOrNone M.Length.Measure.laws (M.Map.graph map.now) v w (least_length M.Length.Measure.laws (M.Map.graph map.now) v w) }
     ensures ways { WayLaws M.Length.Measure.laws (M.Map.graph map.now) }
 {
-    let n = room(map, table.len())?;
-    direct::fill(map, table);
-    for x in 0..n {
-        by_way_of::shorten::<M::Length>(table, n, x);
+    let places = room(map, table.len())?;
+    let mut table = Table {
+        rows: table,
+        places,
+    };
+    direct::fill(map, &mut table);
+    for x in 0..places {
+        table.shorten(x);
     }
     Ok(())
 }
