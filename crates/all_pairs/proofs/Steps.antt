@@ -1,10 +1,10 @@
 -- The steps of filling a table of least lengths.
-use Rattle.std.proofs.Common.{◌≡◌, ℕ, ◌+◌, ◌*◌, ◌/◌, ◌%◌, ◌<◌, ◌≤◌, cond, eqb, List, [], ◌∷◌, length, get_or, take, set, Some, None, Option, sym, refl, ap, ◌∙◌, subst, subst₂, ⊎_elim, add-one, arith}
+use Rattle.std.proofs.Common.{◌≡◌, ℕ, zero, suc, ◌+◌, ◌*◌, ◌/◌, ◌%◌, ◌<◌, ◌≤◌, Bool, true, false, cond, eqb, List, [], ◌∷◌, length, get_or, take, set, Some, None, Option, sym, refl, ap, ◌∙◌, subst, subst₂, ⊎_elim, add-one, arith}
 use Rattle.std.specs.Option.{option_map}
-use Rattle.std.specs.List.{slice_get}
+use Rattle.std.specs.List.{slice_get, fold, range_with_len}
 use Rattle.std.proofs.lemmas.Nat.{mul-add-lt, div-mul-add, mod-mul-add, div-add-mod', div_below}
-use Rattle.std.proofs.lemmas.List.{get_or-set_same, get_or-set_other}
-use Rattle.std.proofs.lemmas.Bool.{cases_eq, eq-eqb, ne_eqb, cond-true, cond-false}
+use Rattle.std.proofs.lemmas.List.{get_or-set_same, get_or-set_other, take_all}
+use Rattle.std.proofs.lemmas.Bool.{cases_eq}
 use Rattle.measure.specs.Laws.{OrderedMonoid, RowEncoding}
 use Rattle.graph.specs.Graphs.{Graph}
 use Rattle.graph.specs.Kinds.{Through, Direct, Right}
@@ -30,28 +30,33 @@ read_back e (Some d) = ap Some (e.kept d)
 pub inside : (n v w : ℕ) → v < n → w < n → v * n + w < n * n
 inside n v w h k = mul-add-lt v n w n h k
 
-module _ {L : Type 0} (m : OrderedMonoid L) (g : Graph L) (v w i : ℕ) (a : Arc L) (answer : Option (Arc L)) (o : Option L)
-    (answer-is : answer ≡ slice_get (g.arriving w) i) (is_some : answer ≡ Some a) (before : Right m g (Direct (take i (g.arriving w))) v w o) where
-  at_i : slice_get (g.arriving w) i ≡ Some a
-  at_i = sym answer-is ∙ is_some
+-- a length, or that of an arc if there is one, it departs from v and is shorter
+abbrev pub counted : {L : Type 0} → OrderedMonoid L → ℕ → Option L → Option (Arc L) → Option L
+counted m v o None = o
+counted m v o (Some a) = cond (eqb a.from v) (shorter m o (Some a.length)) o
 
-  one_more : Right m g (Direct (take (i + 1) (g.arriving w))) v w (shorter m o (cond (eqb a.from v) (Some a.length) None))
-  one_more = right_arc_more m g v w a (take i (g.arriving w)) (take (i + 1) (g.arriving w))
-      (λ b h. in_take_more (g.arriving w) i a b at_i h) (nth_in (g.arriving w) i a at_i) o before
+module _ {L : Type 0} (m : OrderedMonoid L) (g : Graph L) (v w : ℕ) where
+  -- right for one arc more
+  one_counted : (i : ℕ) (o : Option L) → i < length (g.arriving w) → Right m g (Direct (take i (g.arriving w))) v w o →
+      Right m g (Direct (take (i + 1) (g.arriving w))) v w (counted m v o (slice_get (g.arriving w) i))
+  one_counted i o here before = go (slice_get (g.arriving w) i) refl
+    where
+      go : (answer : Option (Arc L)) → slice_get (g.arriving w) i ≡ answer → Right m g (Direct (take (i + 1) (g.arriving w))) v w (counted m v o answer)
+      go None e = absurd (omega (arith, nth_none (g.arriving w) i e))
+      go (Some a) e =
+          subst (Right m g (Direct (take (i + 1) (g.arriving w))) v w) (by_test (eqb a.from v))
+          (right_arc_more m g v w a (take i (g.arriving w)) (take (i + 1) (g.arriving w))
+          (λ b h. in_take_more (g.arriving w) i a b e h) (nth_in (g.arriving w) i a e) o before)
+        where
+          by_test : (t : Bool) → shorter m o (cond t (Some a.length) None) ≡ cond t (shorter m o (Some a.length)) o
+          by_test true = refl
+          by_test false = shorter_none m o
 
-  -- an arc from v counts
-  pub arc_counts : (after least : Option L) → after ≡ least → least ≡ shorter m o (Some a.length) → a.from ≡ v → Right m g (Direct (take (i + 1) (g.arriving w))) v w after
-  arc_counts after least after_is least-is e = subst (Right m g (Direct (take (i + 1) (g.arriving w))) v w)
-      (ap (shorter m o) (cond-true (eqb a.from v) (Some a.length) None (eq-eqb _ _ e)) ∙ sym (after_is ∙ least-is)) one_more
-
-  -- an arc from elsewhere does not
-  pub arc_passes : (after : Option L) → after ≡ o → (a.from ≡ v → ⊥) → Right m g (Direct (take (i + 1) (g.arriving w))) v w after
-  arc_passes after is n = subst (Right m g (Direct (take (i + 1) (g.arriving w))) v w)
-      (ap (shorter m o) (cond-false (eqb a.from v) (Some a.length) None (ne_eqb _ _ n)) ∙ shorter_none m o ∙ sym is) one_more
-
--- below their number an arc is found
-pub arc_found : {L : Type 0} (g : Graph L) (w i count : ℕ) (answer : Option (Arc L)) → answer ≡ slice_get (g.arriving w) i → answer ≡ None → count ≡ length (g.arriving w) → i < count → ⊥
-arc_found g w i count answer is none all here = omega (arith, nth_none (g.arriving w) i (sym is ∙ none))
+  -- and for all
+  pub all_counted : (n i : ℕ) (o : Option L) → i + n ≡ length (g.arriving w) → Right m g (Direct (take i (g.arriving w))) v w o →
+      Right m g (Direct (g.arriving w)) v w (fold (λ p j. counted m v p (slice_get (g.arriving w) j)) o (range_with_len i n))
+  all_counted zero i o e before = subst (λ arcs. Right m g (Direct arcs) v w o) (take_all i (g.arriving w) (omega arith)) before
+  all_counted (suc n) i o e before = all_counted n (i + 1) (counted m v o (slice_get (g.arriving w) i)) (omega arith) (one_counted i o (omega arith) before)
 
 -- what is unchanged from a position on stays so after a write before it
 pub same_set : {R : Type 0} (n m k : ℕ) (start table written after : List (Option R)) (row : Option R) → written ≡ set table k row → after ≡ written → n ≤ m → k < m → SameFrom n start table → SameFrom m start after

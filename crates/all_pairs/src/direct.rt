@@ -12,19 +12,11 @@ use measure::Measure;
 fn shortest<M: Map>(map: &M, v: usize, w: usize) -> Option<M::Length>
     ensures { v < (M.Map.graph map.now).places → Right M.Length.Measure.laws (M.Map.graph map.now) (Direct ((M.Map.graph map.now).arriving w)) v w result }
 {
-    let mut least = if v == w {
-        Some(M::Length::zero())
-    } else {
-        None
-    };
-    for i in 0..map.arrivals(w) {
-        if let Some(arc) = map.arrival(w, i) {
-            if arc.from as usize == v {
-                least = shorter(least, arc.length);
-            }
-        }
-    }
-    least
+    let empty_way = (v == w).then_some(M::Length::zero());
+    (0..map.arrivals(w)).fold(empty_way, |least, i| match map.arrival(w, i) {
+        Some(arc) if usize::from(arc.from) == v => shorter(least, arc.length),
+        _ => least,
+    })
 }
 
 /// Fills the table of a map with the ways of one arc at most.

@@ -23,6 +23,7 @@ mod table;
 /// to `w` at `v * n + w`. The rest of a longer table is unchanged; a shorter one is refused, and unchanged too.
 ///
 /// It takes time n × n × n, and n for each arc of the map.
+#[tactic(auto, using(graph::proofs::Computed::least_length_right, graph::proofs::LeastWays::way_laws))]
 pub fn least_lengths<M: Map>(
     map: &M,
     table: &mut [Option<<M::Length as Measure>::Row>],

@@ -2,8 +2,6 @@ use Rattle.std.proofs.Common.{◌≡◌, ℕ, ◌*◌, ◌≤◌, length, sym, r
 use Rattle.std.proofs.lemmas.Bool.{cases_lt}
 use Rattle.fault.specs.Causes.{Clear}
 use Rattle.graph.proofs.Lists.{below}
-use Rattle.graph.proofs.Computed.{least_length_right}
-use Rattle.graph.proofs.LeastWays.{way_laws}
 use Rattle.all_pairs.specs.Tables.{Accepted, table_causes}
 use Rattle.all_pairs.proofs.Steps.{filled, shorten_more}
 use Rattle.all_pairs.proofs.least_lengths.Goals as goal
@@ -11,12 +9,6 @@ use Rattle.all_pairs.proofs.least_lengths.Goals as goal
 -- no cause to refuse: there is room
 enough : (p given : ℕ) → Clear (table_causes p given) → p * p ≤ given
 enough p given clear = ⊎_elim (λ h. absurd (clear.0 (p * p) (refl, h))) (λ h. h) (cases_lt given (p * p))
-
-pub returns-in_err-places-clause-least : goal.returns-in_err-places-clause-least
-returns-in_err-places-clause-least g c = least_length_right g.M.Length.Measure.laws (g.M.Map.graph c.args.map.now)
-
-pub returns-in_err-places-clause-ways : goal.returns-in_err-places-clause-ways
-returns-in_err-places-clause-ways g c = way_laws g.M.Length.Measure.laws (g.M.Map.graph c.args.map.now)
 
 pub invariant_of-table : goal.invariant_of-table
 invariant_of-table g c =
@@ -63,9 +55,3 @@ returns-clause-answers g c =
     let start = rw known.0 at c.fill.ensures.rest in
     let accepted : Accepted m e map c.args.table.now table = (known.1, right, λ k h. rest k h ∙ start k h) in
     subst (λ t. Accepted m e map c.args.table.now t) (search rules) accepted
-
-pub returns-clause-least : goal.returns-clause-least
-returns-clause-least g c = least_length_right g.M.Length.Measure.laws (g.M.Map.graph c.args.map.now)
-
-pub returns-clause-ways : goal.returns-clause-ways
-returns-clause-ways g c = way_laws g.M.Length.Measure.laws (g.M.Map.graph c.args.map.now)

@@ -1,4 +1,4 @@
-use Rattle.std.proofs.Common.{◌≡◌, ◌*◌, ◌≤◌, length, sym, ◌∙◌, arith}
+use Rattle.std.proofs.Common.{◌≡◌, ◌*◌, ◌≤◌, length, ◌∙◌, arith}
 use Rattle.all_pairs.proofs.Steps.{fill_step}
 use Rattle.all_pairs.proofs.direct.fill.Goals as goal
 

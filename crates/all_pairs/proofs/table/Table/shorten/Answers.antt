@@ -1,4 +1,4 @@
-use Rattle.std.proofs.Common.{◌≡◌, ◌*◌, refl, ap, ◌∙◌, add-mul, one-mul, zero-mul, arith}
+use Rattle.std.proofs.Common.{◌≡◌, ◌*◌, ap, ◌∙◌, add-mul, one-mul, arith}
 use Rattle.all_pairs.proofs.table.Table.shorten.Goals as goal
 
 pub loop-v-preserved : goal.loop-v-preserved
