@@ -10,5 +10,5 @@ mod rows;
 pub(crate) struct Table<'a, L: Measure> {
     pub(crate) rows: &'a mut [Option<L::Row>],
     pub(crate) places: usize,
-    pub ghost whole: { places * places ≤ length rows.now },
+    ghost whole: { places * places ≤ length rows.now },
 }

@@ -7,6 +7,7 @@ use measure::Measure;
 
 impl<L: Measure> Table<'_, L> {
     /// The length that stands for `v` and `w`, if there is one.
+    #[tactic(auto, using(crate::proofs::Steps::inside))]
     pub(crate) fn at(&self, v: usize, w: usize) -> Option<L>
         requires v_inside { v < self.now.places }
         requires w_inside { w < self.now.places }
