@@ -1,7 +1,6 @@
 -- What stands in a list, and the numbers below one.
-use Rattle.std.proofs.Common.{◌≡◌, ℕ, zero, suc, ◌+◌, ◌<◌, ◌≤◌, ◌⊎◌, List, [], ◌∷◌, map, length, take, Some, None, sym, refl, ap, ◌∙◌, subst, inl, inr, ⊎_elim, add-one, arith}
+use Rattle.std.proofs.Common.{◌≡◌, ℕ, zero, suc, ◌+◌, ◌<◌, ◌≤◌, ◌⊎◌, List, [], ◌∷◌, length, take, Some, None, sym, refl, ◌∙◌, subst, inl, inr, ⊎_elim, add-one, arith}
 use native.Mathlib.Decide.{ℕ_discrete}
-use Rattle.std.specs.Option.{option_map}
 use Rattle.std.specs.List.{AllByRecursion, slice_get}
 use Rattle.graph.specs.Members.{In}
 
@@ -42,12 +41,6 @@ module _ {X : Type 0} where
       go (z ∷ zs) zero f (inr k) = absurd k
       go (z ∷ zs) (suc j) f (inl k) = inr (inl k)
       go (z ∷ zs) (suc j) f (inr k) = ⊎_elim (λ a. inl a) (λ a. inr (inr a)) (go zs j f k)
-
--- what is found among the images
-pub nth_map : {X Y : Type 0} (f : X → Y) (xs : List X) (i : ℕ) (x : X) → slice_get xs i ≡ Some x → slice_get (map f xs) i ≡ Some (f x)
-nth_map f [] i x e = absurd (let z : ◌≡◌ {A = ℕ} 0 1 = cc in omega arith)
-nth_map f (y ∷ ys) zero x e = ap (λ o. option_map f o) e
-nth_map f (y ∷ ys) (suc i) x e = nth_map f ys i x e
 
 -- the numbers below n
 abbrev pub below : ℕ → List ℕ

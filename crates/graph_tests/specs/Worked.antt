@@ -23,8 +23,8 @@ shown m g show = map (map (option_map show)) (least_table m g)
 
 -- 1 to 0, 100; 4 to 0, 10; 0 to 1, 100; 3 to 2, 50; 0 to 2, 350; 1 to 3, 200; 2 to 3, 50
 abbrev pub five : Graph Seconds
-five = small_graph 5 (0 ∷ 2 ∷ 3 ∷ 5 ∷ 7 ∷ 7 ∷ [])
-    (arc 1 (seconds 100) ∷ arc 4 (seconds 10) ∷ arc 0 (seconds 100) ∷ arc 3 (seconds 50) ∷ arc 0 (seconds 350) ∷ arc 1 (seconds 200) ∷ arc 2 (seconds 50) ∷ [])
+five = small_graph 5
+    ((0, arc 1 (seconds 100)) ∷ (0, arc 4 (seconds 10)) ∷ (1, arc 0 (seconds 100)) ∷ (2, arc 3 (seconds 50)) ∷ (2, arc 0 (seconds 350)) ∷ (3, arc 1 (seconds 200)) ∷ (3, arc 2 (seconds 50)) ∷ [])
     (lit≤ tt) (lit≤ tt)
 
 abbrev pub FiveInSeconds : Type 0
@@ -38,7 +38,7 @@ FiveInSeconds = shown seconds_laws five (λ l. l.count) ≡
 
 -- 2 to 0, 10; 0 to 1, 30; 1 to 2, 20; 0 to 2, 40
 abbrev pub three_rise : Graph Rise
-three_rise = small_graph 3 (0 ∷ 1 ∷ 2 ∷ 4 ∷ []) (arc 2 (rise 10) ∷ arc 0 (rise 30) ∷ arc 1 (rise 20) ∷ arc 0 (rise 40) ∷ []) (lit≤ tt) (lit≤ tt)
+three_rise = small_graph 3 ((0, arc 2 (rise 10)) ∷ (1, arc 0 (rise 30)) ∷ (2, arc 1 (rise 20)) ∷ (2, arc 0 (rise 40)) ∷ []) (lit≤ tt) (lit≤ tt)
 
 abbrev pub ThreeInRise : Type 0
 ThreeInRise = shown rise_laws three_rise (λ l. l.millimetres) ≡
@@ -49,8 +49,8 @@ ThreeInRise = shown rise_laws three_rise (λ l. l.millimetres) ≡
 
 -- 1 to 0, (65,535; 5); 0 to 1, (1; 100); 2 to 1, (1; 7); 1 to 2, (1; 50); 0 to 2, (3; 10)
 abbrev pub three_fares : Graph Fares
-three_fares = small_graph 3 (0 ∷ 1 ∷ 3 ∷ 5 ∷ [])
-    (arc 1 (fares 65535 (seconds 5)) ∷ arc 0 (fares 1 (seconds 100)) ∷ arc 2 (fares 1 (seconds 7)) ∷ arc 1 (fares 1 (seconds 50)) ∷ arc 0 (fares 3 (seconds 10)) ∷ [])
+three_fares = small_graph 3
+    ((0, arc 1 (fares 65535 (seconds 5))) ∷ (1, arc 0 (fares 1 (seconds 100))) ∷ (1, arc 2 (fares 1 (seconds 7))) ∷ (2, arc 1 (fares 1 (seconds 50))) ∷ (2, arc 0 (fares 3 (seconds 10))) ∷ [])
     (lit≤ tt) (lit≤ tt)
 
 abbrev pub ThreeInFares : Type 0

@@ -2,13 +2,14 @@
 use fault::atlas::AtlasFault;
 use graph::grid::Grid;
 use graph::map::Map;
+use std::array;
 use std::process::Abort;
 use std::test::Fail;
 
 /// The arc of number `i` to a place: where it comes from and how many seconds it takes.
 fn arc(grid: &Grid, place: usize, i: usize) -> Option<(u16, u32)> {
-    let arc = grid.arrival(place, i)?;
-    Some((arc.from, arc.length.count()))
+    grid.arrival(place, i)
+        .map(|arc| (arc.from, arc.length.count()))
 }
 
 /// So many arcs arrive at each of these places, and no more.
@@ -86,10 +87,7 @@ fn barred_corners(rt: HostRuntime) -> Result<(), Fail> {
 
 #[test]
 fn wall_in_the_largest(rt: HostRuntime) -> Result<(), Fail> {
-    let mut bytes = [3; 4096];
-    for row in 0..64 {
-        bytes[row * 64 + 32] = 0;
-    }
+    let bytes = array::from_fn::<u8, 4096, _>(|place| if place % 64 == 32 { 0 } else { 3 });
     let grid = Grid::new(64, 64, &bytes)?;
     assert_eq!(rt; grid.places(), 4096);
     check_counts(
@@ -121,14 +119,6 @@ fn wall_in_the_largest(rt: HostRuntime) -> Result<(), Fail> {
     )
 }
 
-/// What making a grid is refused for.
-fn refusal(rows: u32, columns: u32, bytes: &[u8]) -> Option<AtlasFault> {
-    match Grid::new(rows, columns, bytes) {
-        Ok(_) => None,
-        Err(fault) => Some(fault),
-    }
-}
-
 #[test]
 fn refused(rt: HostRuntime) {
     let bytes = [1; 4096];
@@ -144,6 +134,6 @@ fn refused(rt: HostRuntime) {
     ];
     for (rows, columns, count, due) in cases {
         assert!(rt; count <= 4096);
-        assert_eq!(rt; refusal(rows, columns, &bytes[..count]), due);
+        assert_eq!(rt; Grid::new(rows, columns, &bytes[..count]).err(), due);
     }
 }

@@ -1,19 +1,16 @@
-//! A small map for tests: at most 7 places and 8 arcs.
-ghost use Rattle.std.specs.Prelude.{◌≡◌, ◌≤◌, length};
+//! A small map for tests.
+ghost use Rattle.std.specs.Prelude.{◌≤◌};
 
 use graph::arc::Arc;
 
 pub mod answer;
 pub mod make;
 
-/// Arcs in order of their to-places; those to place `w` begin at `starts[w]` and end before `starts[w + 1]`.
+/// A map given by its arcs, each with its to-place. The ends of an arc are taken modulo the number of places.
 #[derive(Drop)]
-pub struct SmallTown<L> {
+pub struct SmallTown<'a, L> {
     places: usize,
-    starts: [usize; 8],
-    arcs: [Arc<L>; 8],
+    arcs: &'a [(usize, Arc<L>)],
     ghost some: { 1 ≤ places },
-    ghost few: { places ≤ 7 },
-    ghost starts_whole: { length starts ≡ 8 },
-    ghost arcs_whole: { length arcs ≡ 8 },
+    ghost few: { places ≤ 4096 },
 }

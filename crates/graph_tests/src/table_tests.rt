@@ -22,18 +22,15 @@ fn seconds(from: u16, count: u32) -> Arc<Seconds> {
 fn five_in_seconds(rt: HostRuntime) -> Result<(), Fail> {
     // 1 to 0, 100; 4 to 0, 10; 0 to 1, 100; 3 to 2, 50; 0 to 2, 350; 1 to 3, 200; 2 to 3, 50
     let arcs = [
-        seconds(1, 100),
-        seconds(4, 10),
-        seconds(0, 100),
-        seconds(3, 50),
-        seconds(0, 350),
-        seconds(1, 200),
-        seconds(2, 50),
-        seconds(0, 0),
+        (0, seconds(1, 100)),
+        (0, seconds(4, 10)),
+        (1, seconds(0, 100)),
+        (2, seconds(3, 50)),
+        (2, seconds(0, 350)),
+        (3, seconds(1, 200)),
+        (3, seconds(2, 50)),
     ];
-    let Some(town) = SmallTown::new(5, [0, 2, 3, 5, 7, 7, 0, 0], arcs) else {
-        return Err(Fail::new("no town"));
-    };
+    let town = SmallTown::new(5, &arcs).ok_or("no town")?;
     let due = [
         [Some(0), Some(100), Some(350), Some(300), None],
         [Some(100), Some(0), Some(250), Some(200), None],
@@ -43,12 +40,9 @@ fn five_in_seconds(rt: HostRuntime) -> Result<(), Fail> {
     ];
     let mut table = [Some(7); 26];
     least_lengths(&town, &mut table)?;
-    for v in 0..5 {
-        for w in 0..5 {
-            assert_eq!(rt; table[v * 5 + w], due[v][w]);
-        }
-    }
-    assert_eq!(rt; table[25], Some(7));
+    let (rows, rest) = table.split_at(25);
+    assert_eq!(rt; rows, due.as_flattened());
+    assert_eq!(rt; rest, [Some(7)].as_slice());
     let mut short = [Some(7); 24];
     assert_eq!(rt;
         least_lengths(&town, &mut short),
@@ -70,24 +64,16 @@ fn rise(from: u16, millimetres: u16) -> Arc<Rise> {
 fn three_in_rise(rt: HostRuntime) -> Result<(), Fail> {
     // 2 to 0, 10; 0 to 1, 30; 1 to 2, 20; 0 to 2, 40
     let arcs = [
-        rise(2, 10),
-        rise(0, 30),
-        rise(1, 20),
-        rise(0, 40),
-        rise(0, 0),
-        rise(0, 0),
-        rise(0, 0),
-        rise(0, 0),
+        (0, rise(2, 10)),
+        (1, rise(0, 30)),
+        (2, rise(1, 20)),
+        (2, rise(0, 40)),
     ];
-    let Some(town) = SmallTown::new(3, [0, 1, 2, 4, 0, 0, 0, 0], arcs) else {
-        return Err(Fail::new("no town"));
-    };
+    let town = SmallTown::new(3, &arcs).ok_or("no town")?;
     let due = [0, 30, 30, 20, 0, 20, 10, 30, 0];
     let mut table = [None; 9];
     least_lengths(&town, &mut table)?;
-    for k in 0..9 {
-        assert_eq!(rt; table[k], Some(due[k]));
-    }
+    assert_eq!(rt; table, due.map(Some));
     Ok(())
 }
 
@@ -103,18 +89,13 @@ fn fares(from: u16, zones: u16, count: u32) -> Arc<Fares> {
 fn three_in_fares(rt: HostRuntime) -> Result<(), Fail> {
     // 1 to 0, (65,535; 5); 0 to 1, (1; 100); 2 to 1, (1; 7); 1 to 2, (1; 50); 0 to 2, (3; 10)
     let arcs = [
-        fares(1, 65535, 5),
-        fares(0, 1, 100),
-        fares(2, 1, 7),
-        fares(1, 1, 50),
-        fares(0, 3, 10),
-        fares(0, 0, 0),
-        fares(0, 0, 0),
-        fares(0, 0, 0),
+        (0, fares(1, 65535, 5)),
+        (1, fares(0, 1, 100)),
+        (1, fares(2, 1, 7)),
+        (2, fares(1, 1, 50)),
+        (2, fares(0, 3, 10)),
     ];
-    let Some(town) = SmallTown::new(3, [0, 1, 3, 5, 0, 0, 0, 0], arcs) else {
-        return Err(Fail::new("no town"));
-    };
+    let town = SmallTown::new(3, &arcs).ok_or("no town")?;
     let due = [
         (0, 0),
         (1, 100),
@@ -128,10 +109,10 @@ fn three_in_fares(rt: HostRuntime) -> Result<(), Fail> {
     ];
     let mut table = [None; 9];
     least_lengths(&town, &mut table)?;
-    for k in 0..9 {
-        let (zones, seconds) = due[k];
-        assert_eq!(rt; table[k], Some(FaresRow { zones, seconds }));
-    }
+    assert_eq!(rt;
+        table,
+        due.map(|(zones, seconds)| Some(FaresRow { zones, seconds }))
+    );
     Ok(())
 }
 
@@ -155,13 +136,11 @@ fn round_a_barred_cell(rt: HostRuntime) -> Result<(), Fail> {
         Some(17),
         Some(18),
     ];
-    for k in 0..9 {
-        assert_eq!(rt; table[k], due[k]);
-    }
+    assert_eq!(rt; &table[..9], due.as_slice());
     // from the barred cell to itself alone
-    for k in 0..9 {
-        assert_eq!(rt; table[36 + k], if k == 4 { Some(0) } else { None });
-    }
+    let mut alone = [None; 9];
+    alone[4] = Some(0);
+    assert_eq!(rt; &table[36..45], alone.as_slice());
     // back from the last cell to the first
     assert_eq!(rt; table[72], Some(11));
     Ok(())

@@ -4,18 +4,14 @@ ghost use Rattle.std.specs.Prelude.{◌≡◌, ◌≤◌, MatchOption};
 use super::SmallTown;
 use graph::arc::Arc;
 
-impl<L: Copy> SmallTown<L> {
-    /// The town of so many places, 1 to 7, with these arcs.
-    pub fn new(places: usize, starts: [usize; 8], arcs: [Arc<L>; 8]) -> Option<SmallTown<L>>
-        ensures { MatchOption result ((1 ≤ places) × (places ≤ 7) → ⊥) (λ t. (t.places ≡ places) × (t.starts ≡ starts) × (t.arcs ≡ arcs)) }
+impl<'a, L> SmallTown<'a, L> {
+    /// The town of so many places, 1 to 4,096, with these arcs.
+    pub fn new(places: usize, arcs: &'a [(usize, Arc<L>)]) -> Option<SmallTown<'a, L>>
+        ensures { MatchOption result ((1 ≤ places) × (places ≤ 4096) → ⊥) (λ t. (t.places ≡ places) × (t.arcs.now ≡ arcs.now)) }
     {
-        if places < 1 || places > 7 {
+        if !(1..=4096).contains(&places) {
             return None;
         }
-        Some(SmallTown {
-            places,
-            starts,
-            arcs,
-        })
+        Some(SmallTown { places, arcs })
     }
 }
