@@ -19,7 +19,7 @@ fn shortest<M: Map>(map: &M, v: usize, w: usize) -> Option<M::Length>
     })
 }
 
-/// Fills the table of a map with the ways of one arc at most.
+/// Fills the table of a map with the ways of one arc at most, row by row: row `k` is that of places `k / places` and `k % places`.
 pub(crate) fn fill<M: Map>(map: &M, table: &mut Table<M::Length>)
     requires { table.old.places ≡ (M.Map.graph map.now).places }
     ensures same_reference { table.new.rows.ghost_name ≡ table.old.rows.ghost_name }

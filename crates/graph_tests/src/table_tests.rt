@@ -10,25 +10,22 @@ use measure::rise::Rise;
 use measure::seconds::Seconds;
 use std::test::Fail;
 
-/// An arc of so many seconds.
-fn seconds(from: u16, count: u32) -> Arc<Seconds> {
-    Arc {
-        from,
-        length: Seconds::new(count),
-    }
+/// An arc from a place, of some length.
+fn arc<L>(from: u16, length: L) -> Arc<L> {
+    Arc { from, length }
 }
 
 #[test]
 fn five_in_seconds(rt: HostRuntime) -> Result<(), Fail> {
     // 1 to 0, 100; 4 to 0, 10; 0 to 1, 100; 3 to 2, 50; 0 to 2, 350; 1 to 3, 200; 2 to 3, 50
     let arcs = [
-        (0, seconds(1, 100)),
-        (0, seconds(4, 10)),
-        (1, seconds(0, 100)),
-        (2, seconds(3, 50)),
-        (2, seconds(0, 350)),
-        (3, seconds(1, 200)),
-        (3, seconds(2, 50)),
+        (0, arc(1, Seconds::new(100))),
+        (0, arc(4, Seconds::new(10))),
+        (1, arc(0, Seconds::new(100))),
+        (2, arc(3, Seconds::new(50))),
+        (2, arc(0, Seconds::new(350))),
+        (3, arc(1, Seconds::new(200))),
+        (3, arc(2, Seconds::new(50))),
     ];
     let town = SmallTown::new(5, &arcs).ok_or("no town")?;
     let due = [
@@ -52,22 +49,14 @@ fn five_in_seconds(rt: HostRuntime) -> Result<(), Fail> {
     Ok(())
 }
 
-/// An arc of so many millimetres.
-fn rise(from: u16, millimetres: u16) -> Arc<Rise> {
-    Arc {
-        from,
-        length: Rise::new(millimetres),
-    }
-}
-
 #[test]
 fn three_in_rise(rt: HostRuntime) -> Result<(), Fail> {
     // 2 to 0, 10; 0 to 1, 30; 1 to 2, 20; 0 to 2, 40
     let arcs = [
-        (0, rise(2, 10)),
-        (1, rise(0, 30)),
-        (2, rise(1, 20)),
-        (2, rise(0, 40)),
+        (0, arc(2, Rise::new(10))),
+        (1, arc(0, Rise::new(30))),
+        (2, arc(1, Rise::new(20))),
+        (2, arc(0, Rise::new(40))),
     ];
     let town = SmallTown::new(3, &arcs).ok_or("no town")?;
     let due = [0, 30, 30, 20, 0, 20, 10, 30, 0];
@@ -77,23 +66,15 @@ fn three_in_rise(rt: HostRuntime) -> Result<(), Fail> {
     Ok(())
 }
 
-/// An arc of so many zones and seconds.
-fn fares(from: u16, zones: u16, count: u32) -> Arc<Fares> {
-    Arc {
-        from,
-        length: Fares::new(zones, Seconds::new(count)),
-    }
-}
-
 #[test]
 fn three_in_fares(rt: HostRuntime) -> Result<(), Fail> {
     // 1 to 0, (65,535; 5); 0 to 1, (1; 100); 2 to 1, (1; 7); 1 to 2, (1; 50); 0 to 2, (3; 10)
     let arcs = [
-        (0, fares(1, 65535, 5)),
-        (1, fares(0, 1, 100)),
-        (1, fares(2, 1, 7)),
-        (2, fares(1, 1, 50)),
-        (2, fares(0, 3, 10)),
+        (0, arc(1, Fares::new(65535, Seconds::new(5)))),
+        (1, arc(0, Fares::new(1, Seconds::new(100)))),
+        (1, arc(2, Fares::new(1, Seconds::new(7)))),
+        (2, arc(1, Fares::new(1, Seconds::new(50)))),
+        (2, arc(0, Fares::new(3, Seconds::new(10)))),
     ];
     let town = SmallTown::new(3, &arcs).ok_or("no town")?;
     let due = [
