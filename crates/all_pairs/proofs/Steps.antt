@@ -30,6 +30,10 @@ read_back e (Some d) = ap Some (e.kept d)
 pub inside : (n v w : ℕ) → v < n → w < n → v * n + w < n * n
 inside n v w h k = mul-add-lt v n w n h k
 
+-- and inside a longer one
+pub inside_table : (n v w long : ℕ) → v < n → w < n → n * n ≤ long → v * n + w < long
+inside_table n v w long h k whole = omega (arith, inside n v w h k)
+
 -- a length, or that of an arc if there is one, it departs from v and is shorter
 abbrev pub counted : {L : Type 0} → OrderedMonoid L → ℕ → Option L → Option (Arc L) → Option L
 counted m v o None = o

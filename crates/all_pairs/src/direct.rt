@@ -13,6 +13,7 @@ fn shortest<M: Map>(map: &M, v: usize, w: usize) -> Option<M::Length>
     ensures { v < (M.Map.graph map.now).places → Right M.Length.Measure.laws (M.Map.graph map.now) (Direct ((M.Map.graph map.now).arriving w)) v w result }
 {
     let empty_way = (v == w).then_some(M::Length::zero());
+    // A fold over the arcs' numbers: one over the arcs, by `filter_map`, gets no proof yet where lengths are of any measure.
     (0..map.arrivals(w)).fold(empty_way, |least, i| match map.arrival(w, i) {
         Some(arc) if usize::from(arc.from) == v => shorter(least, arc.length),
         _ => least,

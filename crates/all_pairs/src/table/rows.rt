@@ -7,12 +7,13 @@ use measure::Measure;
 
 impl<L: Measure> Table<'_, L> {
     /// The length that stands for `v` and `w`, if there is one.
-    #[tactic(auto, using(crate::proofs::Steps::inside))]
+    #[tactic(auto, using(crate::proofs::Steps::inside_table))]
     pub(crate) fn at(&self, v: usize, w: usize) -> Option<L>
         requires v_inside { v < self.now.places }
         requires w_inside { w < self.now.places }
         ensures { result ≡ option_map L.Measure.encoding.reads (slice_index_or self.now.rows.now (v * self.now.places + w) None) }
     {
+        // A closure: passed by its name, `L::read` gets no proof yet.
         self.rows[v * self.places + w].map(|row| L::read(row))
     }
 

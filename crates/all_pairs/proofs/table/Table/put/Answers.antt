@@ -1,9 +1,9 @@
-use Rattle.std.proofs.Common.{◌+◌, ◌*◌, ◌<◌, length, arith, rules}
-use Rattle.all_pairs.proofs.Steps.{inside}
+use Rattle.std.proofs.Common.{length, rules}
+use Rattle.all_pairs.proofs.Steps.{inside_table}
 use Rattle.all_pairs.proofs.table.Table.put.Goals as goal
 
 pub offset_bounds-self-v : goal.offset_bounds-self-v
 offset_bounds-self-v g c =
-    let k = inside c.args.self.now.places c.args.v c.args.w c.requires.v_inside c.requires.w_inside in
-    let h : c.args.v * c.args.self.now.places + c.args.w < length c.args.self.now.rows.now = omega (arith, c.args.self.now.whole) in
+    let t = c.args.self.now in
+    let h = inside_table t.places c.args.v c.args.w (length t.rows.now) c.requires.v_inside c.requires.w_inside t.whole in
     search rules
