@@ -6,8 +6,8 @@ use crate::PLACES;
 use crate::place::Place;
 
 /// The mark of a place that stands in no slot.
-// A number and not `None`: each change copies the table out and back, and with marks of `Option<u16>` the
-// table is 24 KiB in place of 16. The operations of heap_trial then took 1.14 s in place of 0.30.
+// A number and not `None`: with marks of `Option<u16>` the table is 24 KiB in place of 16, and each change
+// copies it out and back. With a table of that size heap_trial took 1.13 s in place of 0.31.
 const ABSENT: u16 = 4096;
 
 /// Slots and positions that point back at each other, in every table that exists.
