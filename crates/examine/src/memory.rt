@@ -7,6 +7,7 @@ use sketches::view::Sketches;
 use tables::rows::OrderRow;
 
 /// The lent tables of an atlas with the numbers that go with them: n places, so many of them swept, and so many cells used.
+// n stands beside the tables, which are not cut to it: that they have n rows is tested, and a surplus row may hold anything.
 #[derive(Clone, Copy)]
 pub struct Memory<'a, R> {
     pub n: u16,
@@ -20,7 +21,7 @@ impl<R: Copy> Memory<'_, R> {
     ghost use Rattle.examine.specs.Memories.{IsSound, FailsFirst};
 
     /// Makes the tests. The first that fails is told. `given` is the number of places of the map, if one is given.
-    #[tactic(auto, using(tables::proofs::Verdicts::fails_order, tables::proofs::Verdicts::fails_links, tables::proofs::Verdicts::fails_positions, tables::proofs::Verdicts::fails_counts, tables::proofs::Verdicts::fails_places, tables::proofs::Verdicts::sound_by))]
+    #[tactic(auto, using(tables::proofs::Verdicts::verdicts))]
     pub fn examine(&self, given: Option<usize>) -> Result<(), MemoryTest>
         ensures { MatchResult result (λ _. IsSound self.now given) (FailsFirst self.now given) }
     {

@@ -15,7 +15,8 @@ fn comes_next(before: Option<u16>, position: u16, swept: u16) -> bool
 impl<R: Copy> Memory<'_, R> {
     // Whether positions along the sketch of a place rise, and are below the number swept.
     fn rises(&self, v: u16) -> bool
-        ensures { IsTrue result ↔ RisingBelow self.now.swept (positions (plain_sketch self.now.sketches.home.now self.now.sketches.cells.now v)) }
+        ensures { let entries = plain_sketch self.now.sketches.home.now self.now.sketches.cells.now v in
+            IsTrue result ↔ RisingBelow self.now.swept (positions entries) }
     {
         let mut before = None;
         for entry in self.sketches.entries(v) {

@@ -5,7 +5,8 @@ use sketches::view::Sketches;
 use tables::rows::{Cell, HomeRow, MISSING, OrderRow};
 
 /// The tables with the numbers that go with them, and how many rows of each table are lent.
-// Arrays with the number lent beside, not Vecs: each memory here is copied and changed, and a Vec would need an allocator and a test of each copy.
+// Arrays with the number lent beside, not Vecs: a memory is copied for each change, and a Vec would need an allocator there
+// and a test that the copy was made.
 #[derive(Clone, Copy)]
 pub(crate) struct TestMemory {
     pub(crate) n: u16,
@@ -21,7 +22,8 @@ pub(crate) struct TestMemory {
 }
 
 /// One number changed: at which row, and to what.
-// Data, not closures: `Rank(0, 0)` says no more than it has to, and a list of closures would need a clause that each may be called.
+// Data, not closures: `Rank(0, 0)` says all there is to say, and a list of closures would need a clause that each may be
+// called.
 #[derive(Clone, Copy)]
 pub(crate) enum Change {
     Rank(usize, u32),

@@ -25,7 +25,8 @@ fn longer(row: HomeRow, free: u32) -> HomeRow
 
 // Writes an entry of v in the cell `free`, linked behind the last cell of the sketch whose row is given.
 fn link_cell<R: Copy>(cells: &mut [Cell<R>], row: HomeRow, v: u16, free: u32, entry: Entry<R>)
-    ensures first { row.entries ≡ 0 → free < missing → cells.new ≡ slice_set cells.old free (new_cell v row.last entry) }
+    ensures first { row.entries ≡ 0 → free < missing →
+        cells.new ≡ slice_set cells.old free (new_cell v row.last entry) }
     ensures more { (c : CellRow R) → 0 < row.entries → free < missing → cell_at cells.old row.last ≡ Some c →
         cells.new ≡ slice_set (slice_set cells.old row.last (with_after c free)) free (new_cell v row.last entry) }
     ensures surplus { drop missing cells.new ≡ drop missing cells.old }
@@ -55,7 +56,8 @@ pub fn append<R: Copy>(
     free: u32,
     entry: Entry<R>,
 )
-    ensures appended { (n swept used : ℕ) → CanAppend n swept used home.old cells.old v free entry → Appended n swept used home.old cells.old v free entry home.new cells.new }
+    ensures appended { (n swept used : ℕ) → CanAppend n swept used home.old cells.old v free entry →
+        Appended n swept used home.old cells.old v free entry home.new cells.new }
     ensures only { OnlySketch v home.old cells.old home.new cells.new }
 {
     let row = row_of(home, v);

@@ -7,6 +7,7 @@ ghost use Rattle.tables.specs.declared.rows.Cell.{Cell as CellRow};
 use tables::rows::{Cell, HomeRow, MISSING};
 
 /// The row of a place; past the table's end, one with an empty sketch.
+// No Option: what is read of a missing place is what `home_at` says of it, and each caller means just that.
 pub fn row_of(home: &[HomeRow], v: u16) -> HomeRow
     ensures { result ≡ home_at home.now v }
 {
@@ -55,7 +56,8 @@ pub(crate) fn put_cell<R: Copy>(cells: &mut [Cell<R>], at: u32, cell: Cell<R>)
 
 /// Has the cell of this number name another as the one after it; where there is none, nothing.
 pub(crate) fn set_after<R: Copy>(cells: &mut [Cell<R>], at: u32, after: u32)
-    ensures there { (c : CellRow R) → cell_at cells.old at ≡ Some c → cells.new ≡ slice_set cells.old at (with_after c after) }
+    ensures there { (c : CellRow R) → cell_at cells.old at ≡ Some c →
+        cells.new ≡ slice_set cells.old at (with_after c after) }
     ensures surplus { drop missing cells.new ≡ drop missing cells.old }
 {
     if let Some(cell) = cell_at(cells, at) {

@@ -16,7 +16,8 @@ fn is_within<M: Measure>(length: M::Row, limit: M) -> bool
 impl<R: Copy> Sketches<'_, R> {
     /// The number of entries of the sketch of a place that are at most `limit` long.
     pub fn count_within<M: Measure<Row = R>>(&self, v: u16, limit: M) -> u32
-        ensures { result ≡ length (entries_within M.Measure.laws limit (sketch M.Measure.encoding self.now.home.now self.now.cells.now v)) }
+        ensures { let entries = sketch M.Measure.encoding self.now.home.now self.now.cells.now v in
+            result ≡ length (entries_within M.Measure.laws limit entries) }
     {
         self.entries(v)
             .filter(|entry| is_within(entry.length, limit))

@@ -15,7 +15,9 @@ fn is_free<R: Copy>(n: u16, cells: &[Cell<R>], at: u32) -> bool
 
 /// The first free cell from the cell `from` on, if there is one. A cell is free where its owner is not below n.
 pub fn free_cell<R: Copy>(n: u16, cells: &[Cell<R>], from: u32) -> Option<u32>
-    ensures { MatchOption result ((j : ℕ) → from ≤ j → Free n cells.now j → ⊥) (λ j. Free n cells.now j × (from ≤ j) × ((i : ℕ) → from ≤ i → i < j → Free n cells.now i → ⊥)) }
+    ensures { MatchOption result
+        ((j : ℕ) → from ≤ j → Free n cells.now j → ⊥)
+        (λ j. Free n cells.now j × (from ≤ j) × ((i : ℕ) → from ≤ i → i < j → Free n cells.now i → ⊥)) }
 {
     (from..cells_there(cells)).find(|at| is_free(n, cells, *at))
 }

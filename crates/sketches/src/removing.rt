@@ -14,7 +14,8 @@ impl<R: Copy> Sketches<'_, R> {
     // The last cell of the sketch of a place, if it has any.
     fn last_cell(&self, v: u16) -> Option<Cell<R>>
         ensures none { (home_at self.now.home.now v).entries ≡ 0 → result ≡ None }
-        ensures some { 0 < (home_at self.now.home.now v).entries → result ≡ cell_at self.now.cells.now (home_at self.now.home.now v).last }
+        ensures some { 0 < (home_at self.now.home.now v).entries →
+            result ≡ cell_at self.now.cells.now (home_at self.now.home.now v).last }
     {
         let row = row_of(self.home, v);
         if row.entries == 0 {
@@ -25,9 +26,11 @@ impl<R: Copy> Sketches<'_, R> {
 
     /// The last entry of the sketch of a place, if it has any.
     pub fn last_entry(&self, v: u16) -> Option<Entry<R>>
-        ensures { Linked self.now.home.now self.now.cells.now v → MatchOption result (plain_sketch self.now.home.now self.now.cells.now v ≡ []) (λ e. (front : List (EntryRow R)) × (plain_sketch self.now.home.now self.now.cells.now v ≡ front ++ (e ∷ []))) }
+        ensures { Linked self.now.home.now self.now.cells.now v →
+            let entries = plain_sketch self.now.home.now self.now.cells.now v in
+            MatchOption result (entries ≡ []) (λ e. (front : List (EntryRow R)) × (entries ≡ front ++ (e ∷ []))) }
     {
-        self.last_cell(v).map(|cell| Entry::from(cell))
+        self.last_cell(v).map(Entry::from)
     }
 }
 
@@ -47,9 +50,11 @@ fn shorter(row: HomeRow, before: u32) -> HomeRow
     }
 }
 
-// Frees the cell of number `gone`: it names n as its owner. The last cell of the sketch that is left, whose row is given, names none after it.
+// Frees the cell of number `gone`: it names n as its owner. The last cell of the sketch that is left, whose row is given,
+// names none after it.
 fn unlink_cell<R: Copy>(cells: &mut [Cell<R>], left: HomeRow, n: u16, gone: u32, cell: Cell<R>)
-    ensures only { left.entries ≡ 0 → gone < missing → cells.new ≡ slice_set cells.old gone (with_owner cell n) }
+    ensures only { left.entries ≡ 0 → gone < missing →
+        cells.new ≡ slice_set cells.old gone (with_owner cell n) }
     ensures more { (b : CellRow R) → 0 < left.entries → gone < missing → cell_at cells.old left.last ≡ Some b →
         cells.new ≡ slice_set (slice_set cells.old left.last (with_after b missing)) gone (with_owner cell n) }
     ensures surplus { drop missing cells.new ≡ drop missing cells.old }
@@ -63,7 +68,8 @@ fn unlink_cell<R: Copy>(cells: &mut [Cell<R>], left: HomeRow, n: u16, gone: u32,
 /// Unlinks the last entry of the sketch of a place, and frees its cell: it names n, the number of places, as its owner.
 // Two `&mut` slices, for the reason given beside `append`.
 pub fn remove_last<R: Copy>(n: u16, home: &mut [HomeRow], cells: &mut [Cell<R>], v: u16)
-    ensures removed { (swept used : ℕ) → CanRemove n swept used home.old cells.old v → Removed n swept used home.old cells.old v home.new cells.new }
+    ensures removed { (swept used : ℕ) → CanRemove n swept used home.old cells.old v →
+        Removed n swept used home.old cells.old v home.new cells.new }
     ensures only { OnlySketch v home.old cells.old home.new cells.new }
 {
     let row = row_of(home, v);

@@ -108,13 +108,13 @@ module _ {R : Type 0} (n swept used : ℕ) (home : List HomeRow) (cells : List (
   linked_cell row = record { owner = v; position = e.position; length = e.length; before = row.last; after = missing }
 
   -- what the code writes is that: `row` is what it read of v, `longer` what it writes of v, and the number of entries is held at the largest
-  pub appended_by : (row longer : HomeRow) (cells' : List (Cell R)) → row ≡ home_at home v
+  pub appended_by : (row longer : HomeRow) (home' : List HomeRow) (cells' : List (Cell R)) → row ≡ home_at home v → home' ≡ set home v longer
       → longer.position ≡ row.position → longer.first ≡ cond (eqb row.entries 0) free row.first → longer.last ≡ free → longer.entries ≡ min (row.entries + 1) 4294967295
       → (row.entries ≡ 0 → cells' ≡ set cells free (linked_cell row))
       → ((d : Cell R) → 0 < row.entries → cell_at cells row.last ≡ Some d → cells' ≡ set (set cells row.last (with_after d free)) free (linked_cell row))
-      → Appended n swept used home cells v free e (set home v longer) cells'
-  appended_by row longer cells' is =
-      subst (λ r.
+      → Appended n swept used home cells v free e home' cells'
+  appended_by row longer home' cells' is written =
+      rw written (subst (λ r.
       longer.position ≡ r.position → longer.first ≡ cond (eqb r.entries 0) free r.first → longer.last ≡ free → longer.entries ≡ min (r.entries + 1) 4294967295
       → (r.entries ≡ 0 → cells' ≡ set cells free (linked_cell r))
       → ((d : Cell R) → 0 < r.entries → cell_at cells r.last ≡ Some d → cells' ≡ set (set cells r.last (with_after d free)) free (linked_cell r))
@@ -130,4 +130,4 @@ module _ {R : Type 0} (n swept used : ℕ) (home : List HomeRow) (cells : List (
       let d = last_cell cells v row'.last missing missing row'.first row'.entries (can.sound.links.linked v can.place) there in
       let first : longer.first ≡ row'.first = f ∙ ap (λ b. cond b free row'.first) (ne_eqb row'.entries 0 some) in
       rw (row_made longer _ _ _ _ p first l (held longer.entries more), several d.0 there d.1) (append_more d.0 there d.1))
-      (cases_eq row'.entries 0))
+      (cases_eq row'.entries 0)))

@@ -112,13 +112,14 @@ module _ {R : Type 0} (n swept used : ℕ) (home : List HomeRow) (cells : List (
 
 -- what the code writes is that: `row` is what it read of v, `d` its last cell, and `shorter` what it writes of v
 module _ {R : Type 0} (n swept used : ℕ) (home : List HomeRow) (cells : List (Cell R)) (v : ℕ) (can : CanRemove n swept used home cells v) where
-  pub removed_by : (row shorter : HomeRow) (d : Cell R) (cells' : List (Cell R)) → row ≡ home_at home v → cell_at cells row.last ≡ Some d
+  pub removed_by : (row shorter : HomeRow) (d : Cell R) (home' : List HomeRow) (cells' : List (Cell R)) → row ≡ home_at home v → cell_at cells row.last ≡ Some d
+      → home' ≡ set home v shorter
       → shorter.position ≡ row.position → shorter.first ≡ cond (eqb (row.entries - 1) 0) missing row.first → shorter.last ≡ d.before → shorter.entries ≡ row.entries - 1
       → (shorter.entries ≡ 0 → cells' ≡ set cells row.last (with_owner d n))
       → ((b : Cell R) → 0 < shorter.entries → cell_at cells shorter.last ≡ Some b → cells' ≡ set (set cells shorter.last (with_after b missing)) row.last (with_owner d n))
-      → Removed n swept used home cells v (set home v shorter) cells'
-  removed_by row shorter d cells' is =
-      subst (λ r.
+      → Removed n swept used home cells v home' cells'
+  removed_by row shorter d home' cells' is found written =
+      rw written (subst (λ r.
       cell_at cells r.last ≡ Some d
       → shorter.position ≡ r.position → shorter.first ≡ cond (eqb (r.entries - 1) 0) missing r.first → shorter.last ≡ d.before → shorter.entries ≡ r.entries - 1
       → (shorter.entries ≡ 0 → cells' ≡ set cells r.last (with_owner d n))
@@ -137,7 +138,7 @@ module _ {R : Type 0} (n swept used : ℕ) (home : List HomeRow) (cells : List (
       let first : shorter.first ≡ row'.first = f ∙ ap (λ b. cond b missing row'.first) (ne_eqb (row'.entries - 1) 0 (λ q. some (k ∙ q))) in
       let at_b : cell_at cells shorter.last ≡ Some b.0 = ap (cell_at cells) l ∙ b.1 in
       rw (row_made shorter _ _ _ _ p first l refl, more b.0 there at_b, l) (remove_more n swept used home cells v can shorter.entries one d found b.0 there b.1))
-      (cases_eq shorter.entries 0))
+      (cases_eq shorter.entries 0)) found)
 
   pub removed_some : (row : HomeRow) → row ≡ home_at home v → cell_at cells row.last ≡ None → ⊥
   removed_some row is =

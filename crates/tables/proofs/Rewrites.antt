@@ -1,5 +1,5 @@
 -- One row of the home table is written, with cells of that place or of none: the other sketches stay.
-use Rattle.std.proofs.Common.{◌≡◌, ℕ, ◌<◌, ◌≤◌, List, length, drop, set, Some, sym, refl, ap, ◌∙◌, subst, ⊎_elim, arith, get_or-set_other, get_or-set_same}
+use Rattle.std.proofs.Common.{◌≡◌, ℕ, ◌<◌, ◌≤◌, List, length, drop, set, Some, sym, ap, ◌∙◌, subst, ⊎_elim, arith, get_or-set_other, get_or-set_same}
 use Rattle.std.proofs.lemmas.Bool.{cases_eq, cases_lt}
 use Rattle.std.proofs.lemmas.List.{set_past}
 use Rattle.tables.specs.declared.rows.HomeRow.{HomeRow}
@@ -27,12 +27,10 @@ module _ (v : ℕ) (home : List HomeRow) (row : HomeRow) (position : row.positio
       (λ h. ap (λ (rows : List HomeRow). (home_at rows v).position) (set_past home v row h)) (cases_lt v (length home))))
       (λ ne. ap (λ (r : HomeRow). r.position) (get_or-set_other home v w row (empty_row 0) ne)) (cases_eq w v)
 
-  pub only_sketch : {R : Type 0} (cells cells' : List (Cell R)) → drop missing cells' ≡ drop missing cells → OnlySketch v home cells (set home v row) cells'
-  only_sketch cells cells' surplus =
-      record { other_rows = λ w ne. nth_set_other home v w row ne; positions = same_positions; surplus = surplus }
-
-pub untouched : {R : Type 0} (v : ℕ) (home : List HomeRow) (cells : List (Cell R)) → OnlySketch v home cells home cells
-untouched v home cells = record { other_rows = λ w ne. refl; positions = λ w. refl; surplus = refl }
+  pub only_sketch : {R : Type 0} (cells cells' : List (Cell R)) (home' : List HomeRow) → home' ≡ set home v row → drop missing cells' ≡ drop missing cells
+      → OnlySketch v home cells home' cells'
+  only_sketch cells cells' home' is surplus =
+      rw is (record { other_rows = λ w ne. nth_set_other home v w row ne; positions = same_positions; surplus = surplus })
 
 module _ {R : Type 0} (n v swept used : ℕ) (home : List HomeRow) (cells cells' : List (Cell R)) (row : HomeRow) (place : v < n) (reach : n ≤ length home)
     (sound : SketchesSound n swept used home cells)

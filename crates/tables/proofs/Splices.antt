@@ -1,7 +1,7 @@
 -- Chains taken apart and put together at their end, and kept where other cells are written.
 use Rattle.std.proofs.Common.{◌≡◌, ℕ, zero, suc, ◌+◌, ◌<◌, cond, ltb, ◌≢◌, List, [], ◌∷◌, ◌++◌, length, get_or, set, Some, None, Option, sym, refl, ap, ◌∙◌, subst, ⊎_elim, arith, MatchOption}
 use Rattle.std.specs.List.{slice_get}
-use Rattle.std.proofs.lemmas.Option.{slice_get_past, slice_get-get_or, slice_get_read}
+use Rattle.std.proofs.lemmas.Option.{slice_get_past, slice_get-get_or}
 use Rattle.std.proofs.lemmas.Bool.{lt-ltb, le-ltb, cases_lt}
 use Rattle.tables.specs.declared.rows.Cell.{Cell}
 use Rattle.tables.specs.declared.rows.Entry.{Entry}
@@ -43,9 +43,6 @@ module _ {R : Type 0} (cells : List (Cell R)) where
   cell_is j c e d =
       let f : cell_at cells j ≡ Some (get_or cells j d) = rw (lt-ltb j missing (cell_far j c e)) (slice_get-get_or cells j d (cell_in j c e)) in
       cc
-
-  pub cell_read : (j : ℕ) (c : Cell R) → j < missing → j < length cells → c ≡ get_or cells j c → cell_at cells j ≡ Some c
-  cell_read j c far in' e = rw (lt-ltb j missing far) (slice_get_read cells (length cells) j c refl in' e)
 
   pub cell_found : (j : ℕ) (c : Cell R) → cell_at cells j ≡ Some c → (d : Cell R) → d ≡ get_or cells j d → cell_at cells j ≡ Some d
   cell_found j c e d f = let s = cell_is j c e d in cc

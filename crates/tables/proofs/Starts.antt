@@ -3,10 +3,8 @@ use Rattle.std.proofs.Common.{◌≡◌, ℕ, ◌-◌, List, sym, subst, subst�
 use Rattle.tables.specs.declared.rows.HomeRow.{HomeRow}
 use Rattle.tables.specs.declared.rows.Cell.{Cell}
 use Rattle.tables.specs.Rows.{missing, home_at}
-use Rattle.tables.specs.Tests.{RisingBelow}
-use Rattle.tables.specs.Walks.{forward, plain_sketch, positions, Chain, Linked}
+use Rattle.tables.specs.Walks.{Chain, Linked}
 use Rattle.tables.proofs.Chains.{Same}
-use Rattle.tables.proofs.Rises.{Rises, rises_all, rising_from}
 
 module _ {R : Type 0} (home : List HomeRow) (cells : List (Cell R)) (v : ℕ) (row : HomeRow) (is : row ≡ home_at home v) where
   none_done : (k : ℕ) → k ≡ k - 0
@@ -16,9 +14,3 @@ module _ {R : Type 0} (home : List HomeRow) (cells : List (Cell R)) (v : ℕ) (r
   linked_start =
       subst₂ (λ (r : HomeRow) (k : ℕ). Same (Linked home cells v) (Chain cells v r.last missing missing r.first k)) (sym is)
       (subst (λ (r : HomeRow). (home_at home v).entries ≡ r.entries - 0) (sym is) (none_done (home_at home v).entries)) (λ h. h, λ h. h)
-
-  pub rises_start : (swept : ℕ) → Same (RisingBelow swept (positions (plain_sketch home cells v))) (Rises swept 0 (forward cells row.first (row.entries - 0)))
-  rises_start swept =
-      subst₂ (λ (r : HomeRow) (k : ℕ). Same (RisingBelow swept (positions (plain_sketch home cells v))) (Rises swept 0 (forward cells r.first k))) (sym is)
-      (subst (λ (r : HomeRow). (home_at home v).entries ≡ r.entries - 0) (sym is) (none_done (home_at home v).entries))
-      (rises_all swept (plain_sketch home cells v), rising_from swept 0 (plain_sketch home cells v))

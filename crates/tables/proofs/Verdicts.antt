@@ -75,3 +75,6 @@ module _ {R : Type 0} (n swept used : ℕ) (order : List OrderRow) (home : List 
   -- sound memory has sound sketches
   pub sketches_sound : Sound n swept used order home cells given → SketchesSound n swept used home cells
   sketches_sound s = record { links = s Links; rising = s Positions; counts = s Counts }
+
+-- each verdict, for a function that makes the tests in turn
+pub ruleset verdicts = (fails_order, fails_links, fails_positions, fails_counts, fails_places, sound_by)

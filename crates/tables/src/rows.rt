@@ -4,7 +4,8 @@ ghost use Rattle.tables.specs.Rows.{empty_row};
 ghost use Rattle.tables.specs.Walks.{noted};
 
 /// How a missing cell is written. Only the cells before this number exist, however long the table is.
-// Numbers, not Option: the lent tables hold plain numbers in a fixed format, where a missing cell is 65,536 and a free cell's owner is n.
+// Numbers, not Option: the lent tables hold plain numbers in a fixed format, where a missing cell is written 65,536, and a free
+// cell names n.
 pub const MISSING: u32 = 65_536;
 
 /// One position of the order: the place that stands there, and its rank. Rows compare by rank, then place.
@@ -38,6 +39,7 @@ impl HomeRow {
 }
 
 /// One entry of the sketch of the noting place `owner`; or a free cell, whose owner is no place.
+// Cells name each other by number, not by Box: they lie in a table that the caller lends, in that fixed format.
 #[derive(Clone, Copy, PartialEq, Eq, Debug)]
 pub struct Cell<R> {
     pub owner: u16,

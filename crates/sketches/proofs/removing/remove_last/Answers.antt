@@ -1,7 +1,6 @@
-use Rattle.std.proofs.Common.{◌≡◌, Some, sym, ap, ◌∙◌, subst}
+use Rattle.std.proofs.Common.{◌≡◌, Some, sym, ap, ◌∙◌}
 use Rattle.tables.specs.declared.rows.HomeRow.{HomeRow}
 use Rattle.tables.specs.Rows.{cell_at}
-use Rattle.tables.specs.Changes.{Removed, OnlySketch}
 use Rattle.tables.proofs.Splices.{cell_far}
 use Rattle.tables.proofs.Removals.{removed_by, removed_some}
 use Rattle.tables.proofs.Rewrites.{only_sketch}
@@ -13,21 +12,16 @@ returns-in_default-clause-removed g c swept used can =
 
 pub returns-in-Some-clause-removed : goal.returns-in-Some-clause-removed
 returns-in-Some-clause-removed g c swept used can =
-    let home = c.args.home.now in
     let cells = c.args.cells.now in
     let row = c.row_of-row.result in
     let found : cell_at cells row.last ≡ Some c.in-Some.cell = sym c.in-Some.ensures in
     let far = cell_far cells row.last c.in-Some.cell found in
     let left = c.shorter-left.ensures in
     let freed = c.unlink_cell.ensures in
-    subst (λ h. Removed c.args.n swept used home cells c.args.v h c.unlink_cell.new.cells) (sym c.put_row.ensures)
-    (removed_by c.args.n swept used home cells c.args.v can row c.shorter-left.result c.in-Some.cell c.unlink_cell.new.cells c.row_of-row.ensures found
-    left.position left.first left.last left.entries (λ none. freed.only none far) (λ b some at. freed.more b some far at))
+    removed_by c.args.n swept used c.args.home.now cells c.args.v can row c.shorter-left.result c.in-Some.cell c.put_row.new.home c.unlink_cell.new.cells c.row_of-row.ensures found
+    c.put_row.ensures left.position left.first left.last left.entries (λ none. freed.only none far) (λ b some at. freed.more b some far at)
 
 pub returns-in-Some-clause-only : goal.returns-in-Some-clause-only
 returns-in-Some-clause-only g c =
-    let home = c.args.home.now in
-    let cells = c.args.cells.now in
-    subst (λ h. OnlySketch c.args.v home cells h c.unlink_cell.new.cells) (sym c.put_row.ensures)
-    (only_sketch c.args.v home c.shorter-left.result (c.shorter-left.ensures.position ∙ ap (λ (r : HomeRow). r.position) c.row_of-row.ensures) cells c.unlink_cell.new.cells
-    c.unlink_cell.ensures.surplus)
+    only_sketch c.args.v c.args.home.now c.shorter-left.result (c.shorter-left.ensures.position ∙ ap (λ (r : HomeRow). r.position) c.row_of-row.ensures) c.args.cells.now
+    c.unlink_cell.new.cells c.put_row.new.home c.put_row.ensures c.unlink_cell.ensures.surplus

@@ -1,5 +1,4 @@
-use Rattle.std.proofs.Common.{arith, refl, rules, tests}
-use Rattle.std.proofs.lemmas.Iterator.{cases_from_all, YieldsList-from_range}
+use Rattle.std.proofs.Common.{refl, rules, tests}
 use Rattle.tables.specs.Tests.{RisingBelow}
 use Rattle.tables.specs.Walks.{plain_sketch, positions}
 use Rattle.examine.proofs.Ranges.{all_below}
@@ -8,8 +7,5 @@ use Rattle.examine.proofs.memory.Memory.positions_hold.Goals as goal
 pub returns : goal.returns
 returns g c =
     let m = c.args.self.now in
-    let home = m.sketches.home.now in
-    let cells = m.sketches.cells.now in
-    all_below m.n (λ v. RisingBelow m.swept (positions (plain_sketch home cells v))) c.all.result
-    (cases_from_all _ _ c.all.result (λ v. RisingBelow m.swept (positions (plain_sketch home cells v))) (λ v. RisingBelow m.swept (positions (plain_sketch home cells v)) → ⊥) c.all.ensures.ran
-    (YieldsList-from_range 0 m.n m.n refl (omega arith)) (λ x q k. search (rules, tests)) (λ x q k. search (rules, tests)))
+    all_below m.n (λ v. RisingBelow m.swept (positions (plain_sketch m.sketches.home.now m.sketches.cells.now v))) _ c.all.result _ _ refl c.all.ensures.ran
+    (λ x q k. search (rules, tests)) (λ x q k. search (rules, tests))
