@@ -1,7 +1,11 @@
 -- Splitting an input at newlines part by part, with the first bytes of a line kept.
-use Rattle.std.proofs.Common.{◌≡◌, ℕ, zero, suc, ◌+◌, ◌<◌, ◌≤◌, Bool, true, false, cond, eqb, ltb, List, [], ◌∷◌, ◌++◌, map, length, get_or, take, drop, set, sym, refl, ap, ◌∙◌, arith, length-append}
-use Rattle.std.proofs.lemmas.List.{take_more_set, take_all, take_at, length-take-le, take-take, drop_more}
+use Rattle.std.proofs.Common.{◌≡◌, ℕ, zero, suc, ◌+◌, ◌<◌, ◌≤◌, ◌==◌, Bool, true, false, cond, not, List, [], ◌∷◌, ◌++◌, map, length, get_or, take, drop, min, sym, refl, ap, ◌∙◌, append_assoc, arith}
+use Rattle.std.proofs.Math.Nat.{min_comm}
+use Rattle.std.proofs.Math.Seq.{take-append-add}
 use Rattle.std.proofs.lemmas.Bool.Decides.{nat_tests}
+use Rattle.std.proofs.lemmas.List.{append-nil, get_or-take, length-take-le, take_all, take_min, take-take}
+use Rattle.std.proofs.lemmas.List.Sums.{split_at_first, fails_before_first, passes_at_first}
+use Rattle.std.specs.List.{position_or_len}
 use Rattle.line_source.specs.Sources.{lines_after, kept_lines}
 
 -- what is kept of a line that goes on
@@ -23,48 +27,56 @@ same_kept n [] (y ∷ c) [] e = absurd (omega (arith, ap length e))
 same_kept n (x ∷ b) [] [] e = absurd (omega (arith, ap length e))
 same_kept n (x ∷ b) (y ∷ c) [] e = ap (λ (l : List ℕ). l ∷ []) e
 same_kept n b c (byte ∷ rest) e =
-    by (eqb byte 10) (same_kept n (b ++ (byte ∷ [])) (c ++ (byte ∷ [])) rest (take_append (suc n) b c (byte ∷ []) e))
+    by (byte == 10) (same_kept n (b ++ (byte ∷ [])) (c ++ (byte ∷ [])) rest (take_append (suc n) b c (byte ∷ []) e))
   where
     by : (t : Bool) → map (take (suc n)) (lines_after (b ++ (byte ∷ [])) rest) ≡ map (take (suc n)) (lines_after (c ++ (byte ∷ [])) rest) → map (take (suc n)) (cond t (b ∷ lines_after [] rest) (lines_after (b ++ (byte ∷ [])) rest)) ≡ map (take (suc n)) (cond t (c ∷ lines_after [] rest) (lines_after (c ++ (byte ∷ [])) rest))
     by true more = ap (λ (l : List ℕ). l ∷ map (take (suc n)) (lines_after [] rest)) e
     by false more = more
 
--- one byte more in the table, if there is room
-pub keep_room : (bytes : List ℕ) (count byte : ℕ) → length bytes ≡ 81 → count < 81 → take (count + 1) (set bytes count byte) ≡ take 81 (take count bytes ++ (byte ∷ []))
-keep_room bytes count byte sized h =
-    take_more_set bytes count byte (omega arith)
-    ∙ sym (take_all 81 (take count bytes ++ (byte ∷ [])) (omega (arith, length-append (take count bytes) (byte ∷ []), length-take-le count bytes (omega arith))))
+-- as many bytes more as there is room for
+pub keep_more : (kept bytes : List ℕ) (room : ℕ) → room + length kept ≡ 81 → kept ++ take (min (length bytes) room) bytes ≡ take 81 (kept ++ bytes)
+keep_more kept bytes room whole =
+    ap (λ (n : ℕ). kept ++ take n bytes) (min_comm (length bytes) room)
+    ∙ (ap (λ (l : List ℕ). kept ++ l) (take_min room bytes)
+    ∙ (sym (take-append-add kept bytes room) ∙ ap (λ (n : ℕ). take n (kept ++ bytes)) {x = length kept + room} {y = 81} (omega arith)))
 
-pub keep_full : (bytes : List ℕ) (count byte : ℕ) → length bytes ≡ 81 → count ≡ 81 → take count bytes ≡ take 81 (take count bytes ++ (byte ∷ []))
-keep_full bytes count byte sized h =
-    sym (take_at (take count bytes) (byte ∷ []) 81 (length-take-le count bytes (omega arith) ∙ h))
+abbrev is_newline : ℕ → Bool
+is_newline byte = byte == 10
 
--- a byte that is no newline goes on with the line
-pub fed_byte : (begun after part rest : List ℕ) (i : ℕ) → i < length part → (get_or part i 0 ≡ 10 → ⊥) → after ≡ take 81 (begun ++ (get_or part i 0 ∷ [])) → kept_lines begun (drop i part ++ rest) ≡ kept_lines after (drop (i + 1) part ++ rest)
-fed_byte begun after part rest i h other is =
-    let byte = get_or part i 0 in
-    let left = drop (i + 1) part ++ rest in
-    let opened : kept_lines begun (drop i part ++ rest) ≡ kept_lines begun (byte ∷ left) = ap (λ (l : List ℕ). kept_lines begun (l ++ rest)) (drop_more part i 0 h) in
-    let goes : kept_lines begun (byte ∷ left) ≡ kept_lines (begun ++ (byte ∷ [])) left =
-    ap (λ (t : Bool). map (take 81) (cond t (begun ∷ lines_after [] left) (lines_after (begun ++ (byte ∷ [])) left))) (not_equal byte other) in
-    let same : take 81 (begun ++ (byte ∷ [])) ≡ take 81 after =
-    sym (take-take 81 81 (begun ++ (byte ∷ [])) (omega arith)) ∙ ap (take 81) (sym is) in
-    opened ∙ (goes ∙ same_kept 80 (begun ++ (byte ∷ [])) after left same)
-  where
-    not_equal : (b : ℕ) → (b ≡ 10 → ⊥) → eqb b 10 ≡ false
-    not_equal b apart = grind (arith, nat_tests)
+abbrev newline_at : List ℕ → ℕ
+newline_at part = position_or_len is_newline part
 
--- a newline ends it
-pub fed_newline : (begun part rest : List ℕ) (i : ℕ) → i < length part → get_or part i 0 ≡ 10 → length begun ≤ 81 → kept_lines begun (drop i part ++ rest) ≡ begun ∷ kept_lines [] (drop (i + 1) part ++ rest)
-fed_newline begun part rest i h is short =
-    let left = drop (i + 1) part ++ rest in
-    let opened : kept_lines begun (drop i part ++ rest) ≡ kept_lines begun (10 ∷ left) =
-    ap (λ (l : List ℕ). kept_lines begun (l ++ rest)) (drop_more part i 0 h) ∙ ap (λ (b : ℕ). kept_lines begun (b ∷ left)) is in
-    opened ∙ ap (λ (l : List ℕ). l ∷ kept_lines [] left) (take_all 81 begun short)
+-- bytes before a newline go on with the line
+goes_on : (begun bytes rest : List ℕ) → ((k : ℕ) → k < length bytes → is_newline (get_or bytes k 0) ≡ false) → lines_after begun (bytes ++ rest) ≡ lines_after (begun ++ bytes) rest
+goes_on begun [] rest none = ap (λ (l : List ℕ). lines_after l rest) (sym (append-nil begun))
+goes_on begun (byte ∷ bytes) rest none =
+    let here : is_newline byte ≡ false = none 0 (omega arith) in
+    let more = goes_on (begun ++ (byte ∷ [])) bytes rest (λ k h. none (suc k) (omega arith)) in
+    rw here (more ∙ ap (λ (l : List ℕ). lines_after l rest) (append_assoc begun (byte ∷ []) bytes))
+
+-- a part without a newline
+pub fed_on : (begun part rest : List ℕ) → length part ≤ newline_at part → kept_lines begun (part ++ rest) ≡ kept_lines (take 81 (begun ++ part)) rest
+fed_on begun part rest far =
+    ap (map (take 81)) (goes_on begun part rest (λ k h. fails_before_first is_newline part k 0 (omega arith)))
+    ∙ same_kept 80 (begun ++ part) (take 81 (begun ++ part)) rest (sym (take-take 81 81 (begun ++ part) (omega arith)))
+
+-- a part with one
+pub fed_end : (begun part rest : List ℕ) → newline_at part < length part → kept_lines begun (part ++ rest) ≡ take 81 (begun ++ take (newline_at part) part) ∷ kept_lines [] (drop (newline_at part + 1) part ++ rest)
+fed_end begun part rest near =
+    let before = take (newline_at part) part in
+    let newline = get_or part (newline_at part) 0 in
+    let left = drop (newline_at part + 1) part ++ rest in
+    let none : (k : ℕ) → k < length before → is_newline (get_or before k 0) ≡ false = λ k h.
+    let sooner : k < newline_at part = omega (arith, length-take-le (newline_at part) part) in
+    ap is_newline (get_or-take (newline_at part) part k 0 sooner) ∙ fails_before_first is_newline part k 0 sooner in
+    let split : part ++ rest ≡ before ++ (newline ∷ left) =
+    ap (λ (l : List ℕ). l ++ rest) (split_at_first is_newline part 0 near) ∙ append_assoc before (newline ∷ drop (newline_at part + 1) part) rest in
+    let ended : lines_after (begun ++ before) (newline ∷ left) ≡ (begun ++ before) ∷ lines_after [] left = rw (passes_at_first is_newline part 0 near) refl in
+    ap (kept_lines begun) split ∙ ap (map (take 81)) (goes_on begun before (newline ∷ left) none ∙ ended)
 
 -- at the end of the input
-pub last_kept : (begun : List ℕ) (count : ℕ) → length begun ≡ count → count ≤ 81 → kept_lines begun [] ≡ cond (ltb 0 count) (begun ∷ []) []
-last_kept [] count long few = let none : ltb 0 count ≡ false = grind (arith, nat_tests) in rw none refl
-last_kept (byte ∷ bytes) count long few =
-    let some : ltb 0 count ≡ true = grind (arith, nat_tests) in
+pub last_kept : (begun : List ℕ) → length begun ≤ 81 → kept_lines begun [] ≡ cond (not (length begun == 0)) (begun ∷ []) []
+last_kept [] few = refl
+last_kept (byte ∷ bytes) few =
+    let some : (suc (length bytes) == 0) ≡ false = grind (arith, nat_tests) in
     rw some (ap (λ (l : List ℕ). l ∷ []) (take_all 81 (byte ∷ bytes) (omega arith)))

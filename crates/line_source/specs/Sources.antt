@@ -1,5 +1,5 @@
 -- The lines of an input: bytes, split at newlines.
-use Rattle.std.specs.Prelude.{◌≡◌, ℕ, ◌+◌, ◌^◌, ◌≤◌, Bool, true, false, cond, List, [], ◌∷◌, ◌++◌, map, length, take, drop, Some, None, Option, ◌==◌}
+use Rattle.std.specs.Prelude.{◌≡◌, ℕ, ◌+◌, ◌^◌, ◌≤◌, cond, List, [], ◌∷◌, ◌++◌, map, length, take, drop, Some, None, Option, Ok, Err, Result, ◌==◌}
 use Rattle.line_source.specs.declared.LineSource.{LineSource}
 
 -- at the end of the input the bytes after the last newline are a line, if there are any
@@ -17,7 +17,7 @@ abbrev pub kept_lines : List ℕ → List ℕ → List (List ℕ)
 kept_lines begun input = map (take 81) (lines_after begun input)
 
 abbrev pub kept : LineSource → List ℕ
-kept s = take s.count s.bytes
+kept s = s.bytes.items
 
 -- a part of an input is fed to a line begun: it may end the line after some bytes of the part, or it may not, and the lines of the input stay, whatever follows the part
 abbrev pub Fed : LineSource → List ℕ → Option ℕ → LineSource → Type 0
@@ -26,6 +26,6 @@ Fed before part (Some used) after =
     (used ≤ length part) × ((rest : List ℕ) → kept_lines (kept before) (part ++ rest) ≡ kept after ∷ kept_lines [] (drop used part ++ rest))
 
 -- the next line begins with nothing kept, and is counted, as far as numbers of 64 bits count
-abbrev pub Begun : LineSource → Bool → LineSource → Type 0
-Begun before true after = (kept after ≡ []) × (after.number ≡ before.number + 1)
-Begun before false after = (after ≡ before) × (2 ^ 64 ≤ before.number + 1)
+abbrev pub Begun : {A E : Type 0} → LineSource → Result A E → LineSource → Type 0
+Begun before (Ok done) after = (kept after ≡ []) × (after.number ≡ before.number + 1)
+Begun before (Err fault) after = (after ≡ before) × (2 ^ 64 ≤ before.number + 1)

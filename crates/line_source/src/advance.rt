@@ -8,43 +8,39 @@ use std::io::{BufRead, ErrorKind};
 
 impl LineSource {
     /// Whether the bytes kept are a line where the input has ended: an empty rest is none.
+    #[tactic(auto, using(crate::proofs::Splitting::last_kept))]
     fn ends_in_line(&self) -> bool
         ensures { kept_lines (kept self.now) [] ≡ (if result then kept self.now ∷ [] else []) }
     {
-        self.count > 0
+        !self.line().is_empty()
     }
 
     /// Begins the next line, if it can be counted.
-    fn begin(&mut self) -> bool
+    fn begin(&mut self) -> io::Result<()>
         ensures { Begun self.old result self.new }
     {
-        let Some(next) = self.number.checked_add(1) else {
-            return false;
-        };
-        self.count = 0;
-        self.number = next;
-        true
+        self.number = self.number.checked_add(1).ok_or_else(too_long)?;
+        self.bytes.clear();
+        Ok(())
     }
 
     /// Reads the next line, and answers false where the input has ended.
+    ///
+    /// The line is lent by `line` and not by this answer, so that its number can be asked for while it is held.
     pub fn advance<R: BufRead>(&mut self, reader: &mut R) -> io::Result<bool>
         ensures { OnOk result (self.new.number ≡ self.old.number + 1) }
     {
-        if !self.begin() {
-            return Err(too_long());
-        }
+        self.begin()?;
         for _ in 0..u64::MAX {
             let part = reader.fill_buf()?;
             if part.is_empty() {
                 return Ok(self.ends_in_line());
             }
             let length = part.len();
-            match self.feed(part) {
-                Some(used) => {
-                    reader.consume(used);
-                    return Ok(true);
-                }
-                None => reader.consume(length),
+            let used = self.feed(part);
+            reader.consume(used.unwrap_or(length));
+            if used.is_some() {
+                return Ok(true);
             }
         }
         Err(too_long())

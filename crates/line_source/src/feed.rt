@@ -1,8 +1,9 @@
 //! The bytes of a line, part by part.
-ghost use Rattle.std.specs.Prelude.{◌≡◌, [], ◌∷◌, ◌++◌, take};
+ghost use Rattle.std.specs.Prelude.{◌≡◌, ◌==◌, ◌≤◌, [], ◌++◌, length, position, take};
 ghost use Rattle.line_source.specs.Sources.{kept, Fed};
 
 use crate::LineSource;
+use arrayvec::ArrayVec;
 
 impl LineSource {
     /// Before the first line.
@@ -10,17 +11,17 @@ impl LineSource {
         ensures { (kept result ≡ []) × (result.number ≡ 0) }
     {
         LineSource {
-            bytes: [0; 81],
-            count: 0,
+            bytes: ArrayVec::new(),
             number: 0,
         }
     }
 
     /// The line, without its newline.
     pub fn line(&self) -> &[u8]
-        ensures { result.now ≡ kept self.now }
+        ensures bytes { result.now ≡ kept self.now }
+        ensures short { length result.now ≤ 81 }
     {
-        &self.bytes[0..self.count]
+        self.bytes.as_slice()
     }
 
     /// The number of the line, counted from 1.
@@ -30,28 +31,38 @@ impl LineSource {
         self.number
     }
 
-    /// Keeps one more byte of the line, if there is room.
-    fn keep(&mut self, byte: u8)
-        ensures bytes { kept self.new ≡ take 81 (kept self.old ++ (byte ∷ [])) }
+    /// Keeps more bytes of the line, as many as there is room for.
+    #[tactic(auto, using(crate::proofs::Splitting::keep_more))]
+    fn keep(&mut self, bytes: &[u8])
+        ensures bytes { kept self.new ≡ take 81 (kept self.old ++ bytes.now) }
         ensures number { self.new.number ≡ self.old.number }
     {
-        if self.count < 81 {
-            self.bytes[self.count] = byte;
-            self.count += 1;
-        }
+        let fitting = bytes.len().min(self.bytes.remaining_capacity());
+        self.bytes.try_extend_from_slice(&bytes[..fitting]).unwrap();
     }
 
     /// Adds a part of the input to the line. Where the part ends the line, tells how many bytes of the part that took, the newline among them.
+    #[tactic(auto, using(crate::proofs::Splitting::fed_on, crate::proofs::Splitting::fed_end))]
     pub fn feed(&mut self, part: &[u8]) -> Option<usize>
         ensures fed { Fed self.old part.now result self.new }
         ensures number { self.new.number ≡ self.old.number }
     {
-        for i in 0..part.len() {
-            if part[i] == b'\n' {
-                return Some(i + 1);
+        match first_newline(part) {
+            Some(end) => {
+                self.keep(&part[..end]);
+                Some(end + 1)
             }
-            self.keep(part[i]);
+            None => {
+                self.keep(part);
+                None
+            }
         }
-        None
     }
+}
+
+/// Where the first newline of a part stands.
+fn first_newline(part: &[u8]) -> Option<usize>
+    ensures { result ≡ position (λ byte. byte == 10) part.now }
+{
+    part.iter().position(|byte| *byte == b'\n')
 }
