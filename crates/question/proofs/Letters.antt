@@ -1,49 +1,21 @@
 -- From the lines of one letter to all allowed lines.
-use Rattle.std.proofs.Common.{◌≡◌, ℕ, ◌+◌, ◌<◌, ◌≤◌, false, ltb, List, [], ◌∷◌, length, get_or, decimal, MatchBool, sym, refl, ap, ◌∙◌, subst, inl, inr, arith, length-append}
+use Rattle.std.proofs.Common.{◌≡◌, ℕ, ◌<◌, ◌≤◌, false, ltb, List, [], ◌∷◌, length, get_or, decimal, MatchBool, sym, refl, ap, ◌∙◌, subst, inl, inr, ◌⊎◌, arith, length-append}
 use Rattle.std.proofs.lemmas.Bool.Decides.{nat_tests}
 use Rattle.fault.specs.declared.line.LineFault.{LineFault}
 use Rattle.fault.specs.declared.line.LineFault.TheVariants.{NoForm, Atlas}
 use Rattle.question_lines.specs.Lines.{spaced, Form, Allowed, Share, MostShared}
 use Rattle.question.specs.Refused.{Refused, NotLettered}
-use Rattle.question.specs.Questions.{places_of, letter_of, numbers_of, Reads}
+use Rattle.question.specs.Questions.{letter_of, numbers_of, Reads}
 use Rattle.question_lines.specs.Words.{Lettered, Lettering}
-use Rattle.question.specs.declared.places.Places.{Places}
 use Rattle.question.specs.declared.form.Question.{Question}
+use Rattle.question.specs.declared.form.Question.TheVariants.{Found, Sweep, TakeBack, Sample, JointSample}
 use Rattle.std.proofs.lemmas.List.{length-take-le}
 use Rattle.question.proofs.Alone.{same_question}
 use Rattle.question_lines.proofs.Numbers.{few_digits}
 use Rattle.question_lines.proofs.SoFar.{shared_byte}
 use Rattle.question_lines.proofs.Nearest.{spaced_many}
 
--- the form of a letter
-pub form_K : (c : ℕ) (ns : List ℕ) → c ≡ 75 → Form c ns → length ns ≡ 1
-form_K c ns e (inl h) = h.1
-form_K c ns e (inr (inl h)) = absurd (omega (arith, h.0))
-form_K c ns e (inr (inr (inl h))) = absurd (omega (arith, h.0))
-form_K c ns e (inr (inr (inr (inl h)))) = absurd (omega (arith, h.0))
-form_K c ns e (inr (inr (inr (inr h)))) = absurd (omega (arith, h.0))
-
-pub form_N : (c : ℕ) (ns : List ℕ) → c ≡ 78 → Form c ns → length ns ≡ 1
-form_N c ns e (inl h) = h.1
-form_N c ns e (inr (inl h)) = h.1
-form_N c ns e (inr (inr (inl h))) = absurd (omega (arith, h.0))
-form_N c ns e (inr (inr (inr (inl h)))) = absurd (omega (arith, h.0))
-form_N c ns e (inr (inr (inr (inr h)))) = absurd (omega (arith, h.0))
-
-pub form_B : (c : ℕ) (ns : List ℕ) → c ≡ 66 → Form c ns → length ns ≡ 1
-form_B c ns e (inl h) = h.1
-form_B c ns e (inr (inl h)) = h.1
-form_B c ns e (inr (inr (inl h))) = h.1
-form_B c ns e (inr (inr (inr (inl h)))) = absurd (omega (arith, h.0))
-form_B c ns e (inr (inr (inr (inr h)))) = absurd (omega (arith, h.0))
-
-pub form_S : (c : ℕ) (ns : List ℕ) → c ≡ 83 → Form c ns → length ns ≡ 2
-form_S c ns e f = grind arith
-
-pub form_U : (c : ℕ) (ns : List ℕ) → c ≡ 85 → Form c ns → 2 ≤ length ns
-form_U c ns e f = grind arith
-
-pub form_letter : (c : ℕ) (ns : List ℕ) → Form c ns → (c ≡ 75 → ⊥) → (c ≡ 78 → ⊥) → (c ≡ 66 → ⊥) → (c ≡ 83 → ⊥) → (c ≡ 85 → ⊥) → ⊥
+form_letter : (c : ℕ) (ns : List ℕ) → Form c ns → (c ≡ 75 → ⊥) → (c ≡ 78 → ⊥) → (c ≡ 66 → ⊥) → (c ≡ 83 → ⊥) → (c ≡ 85 → ⊥) → ⊥
 form_letter c ns f k n b s u = grind arith
 
 -- a line of at most 80 bytes is not too long
@@ -108,15 +80,52 @@ module _ (line : List ℕ) (short : length line ≤ 80) where
     )
     lettered_refused (Atlas fault) never = never
 
-pub some_places : (p : Places) → 2 ≤ 1 + length (places_of p)
-some_places p = omega (arith, length-take-le p.count p.items (omega (arith, p.sized, p.bounded)), p.some)
+-- by what a letter takes
+pub refused_one : (line : List ℕ) (fault : LineFault) → length line ≤ 80 → (get_or line 0 0 ≡ 75) ⊎ ((get_or line 0 0 ≡ 78) ⊎ (get_or line 0 0 ≡ 66)) → NotLettered 1 1 line fault → Refused line fault
+refused_one line fault short letter refused =
+    lettered_refused line short 1 1 (λ ns many few. from ns (omega arith)) (λ ns form few. let one = to ns form in (omega arith, omega arith)) fault refused
+  where
+    from : (ns : List ℕ) → length ns ≡ 1 → Form (get_or line 0 0) ns
+    from ns one = grind arith
+
+    to : (ns : List ℕ) → Form (get_or line 0 0) ns → length ns ≡ 1
+    to ns form = grind arith
+
+pub refused_two : (line : List ℕ) (fault : LineFault) → length line ≤ 80 → get_or line 0 0 ≡ 83 → NotLettered 2 2 line fault → Refused line fault
+refused_two line fault short letter refused =
+    lettered_refused line short 2 2 (λ ns many few. from ns (omega arith)) (λ ns form few. let two = to ns form in (omega arith, omega arith)) fault refused
+  where
+    from : (ns : List ℕ) → length ns ≡ 2 → Form (get_or line 0 0) ns
+    from ns two = grind arith
+
+    to : (ns : List ℕ) → Form (get_or line 0 0) ns → length ns ≡ 2
+    to ns form = grind arith
+
+pub refused_more : (line : List ℕ) (fault : LineFault) → length line ≤ 80 → get_or line 0 0 ≡ 85 → NotLettered 2 80 line fault → Refused line fault
+refused_more line fault short letter refused =
+    lettered_refused line short 2 80 (λ ns many few. from ns many) (λ ns form few. (to ns form, few)) fault refused
+  where
+    from : (ns : List ℕ) → 2 ≤ length ns → Form (get_or line 0 0) ns
+    from ns many = grind arith
+
+    to : (ns : List ℕ) → Form (get_or line 0 0) ns → 2 ≤ length ns
+    to ns form = grind arith
+
+-- the form of a question
+form_of : (q : Question) → Form (letter_of q) (numbers_of q)
+form_of (Found k) = inl (refl, refl)
+form_of (Sweep m) = inr (inl (refl, refl))
+form_of (TakeBack m) = inr (inr (inl (refl, refl)))
+form_of (Sample place limit) = inr (inr (inr (inl (refl, refl))))
+form_of (JointSample limit places) =
+    inr (inr (inr (inr (refl, omega (arith, length-take-le places.count places.items (omega (arith, places.sized, places.bounded)), places.some)))))
 
 -- a line of its letter and these numbers is the question's
-pub reads : (line : List ℕ) (q : Question) → length line ≤ 80 → get_or line 0 0 ≡ letter_of q → Form (letter_of q) (numbers_of q) → Lettering line (numbers_of q) → Reads line q
-reads line q short is form w =
+pub asks : (line : List ℕ) (q : Question) → length line ≤ 80 → get_or line 0 0 ≡ letter_of q → Lettering line (numbers_of q) → Reads line q
+asks line q short is w =
     let text : line ≡ letter_of q ∷ spaced (numbers_of q) = w.writes ∙ ap (λ (c : ℕ). c ∷ spaced (numbers_of q)) is in
     record {
-      allowed = record { letter = letter_of q; numbers = numbers_of q; form = form; fit = w.fit; writes = text; short = short };
+      allowed = record { letter = letter_of q; numbers = numbers_of q; form = form_of q; fit = w.fit; writes = text; short = short };
       writes = text;
       fit = w.fit;
       alone = λ other f e.

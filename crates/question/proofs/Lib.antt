@@ -1,3 +1,3 @@
-mod Faults
-mod Alone
-mod Letters
+pub mod Faults
+pub mod Alone
+pub mod Letters

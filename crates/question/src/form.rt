@@ -5,7 +5,7 @@ pub mod read;
 pub mod write;
 
 /// A question. Its letter, then its numbers in the order of the line.
-#[derive(Clone, Copy)]
+#[derive(Clone, Copy, PartialEq, Eq, Debug)]
 pub enum Question {
     /// K k: found an atlas whose sketches keep k places within any limit.
     Found(u32),

@@ -6,7 +6,7 @@ use fault::refusal::Refusal;
 use std::fmt;
 
 /// A refusal, of whatever layer, and the number of the line that it answers: counted from 1, and 0 for the town file.
-#[derive(Clone, Copy)]
+#[derive(Clone, Copy, PartialEq, Eq, Debug)]
 pub struct ToldRefusal {
     pub refusal: Refusal,
     pub line: u64,

@@ -1,10 +1,10 @@
 -- Numbers in decimal digits: one more digit, and where a number ends in a text.
-use Rattle.std.proofs.Common.{◌≡◌, ℕ, zero, suc, ◌+◌, ◌-◌, ◌*◌, ◌/◌, ◌%◌, ◌^◌, ◌<◌, ◌≤◌, List, [], ◌∷◌, ◌++◌, length, get_or, take, drop, decimal, sym, refl, ap, ◌∙◌, subst, append_assoc, arith, length-append}
+use Rattle.std.proofs.Common.{◌≡◌, ℕ, zero, suc, ◌+◌, ◌-◌, ◌*◌, ◌/◌, ◌%◌, ◌^◌, ◌<◌, ◌≤◌, List, [], ◌∷◌, ◌++◌, length, get_or, take, drop, decimal, sym, refl, ap, ◌∙◌, subst, append_assoc, add-one, arith, length-append}
 use Rattle.std.specs.Int.{IsInRange}
 use Rattle.std.proofs.lemmas.Str.Parse.{IsNumeralModel, numerals_by_fold, tells_by_index}
 use Rattle.std.proofs.lemmas.Fmt.{decimal_digit, decimal_step, decimal_nonempty, digits_decimal, digits_value-decimal, first_decimal, length-decimal-le, decimal_injective}
-use Rattle.std.proofs.lemmas.List.{take_at, get_or_at, drop_more}
-use Rattle.question_lines.specs.Words.{Extends}
+use Rattle.std.proofs.lemmas.List.{take_at, take_all, get_or_at, get_or-drop, drop_more, drop-drop, length-drop}
+use Rattle.question_lines.specs.Words.{Extends, Digits, Word}
 
 -- the number that digits write after a number
 abbrev read_on : ℕ → List ℕ → ℕ
@@ -102,17 +102,56 @@ same_number m n xs ys fits-m fits-n closed-m closed-n e =
     ∙ (ap (take (length (decimal m))) e ∙ take_at (decimal n) ys (length (decimal m)) (sym long)) in
     decimal_injective m n (omega arith) (omega arith) front
 
--- the first digit of a number in a line
-pub first_digit : (line : List ℕ) (start : ℕ) → start < length line → 48 ≤ get_or line start 0 → get_or line start 0 ≤ 57 → drop start line ≡ decimal (get_or line start 0 - 48) ++ drop (start + 1) line
-first_digit line start h low high =
-    drop_more line start 0 h ∙ ap (λ (l : List ℕ). l ++ drop (start + 1) line) (sym (decimal_first (get_or line start 0) low high))
+-- a digit is a number
+pub first_digit : (digit : ℕ) (rest : List ℕ) → 48 ≤ digit → digit ≤ 57 → digit ∷ rest ≡ decimal (digit - 48) ++ rest
+first_digit digit rest low high = ap (λ (l : List ℕ). l ++ rest) (sym (decimal_first digit low high))
 
 -- one digit more
-pub next_digit : (line : List ℕ) (start next n m : ℕ) → next < length line → drop start line ≡ decimal n ++ drop next line → Extends n (get_or line next 0) → m ≡ n * 10 + (get_or line next 0 - 48) → drop start line ≡ decimal m ++ drop (next + 1) line
-next_digit line start next n m h e x is =
-    let b = get_or line next 0 in
-    let rest = drop (next + 1) line in
-    let opened : decimal n ++ drop next line ≡ decimal n ++ (b ∷ rest) = ap (λ (l : List ℕ). decimal n ++ l) (drop_more line next 0 h) in
-    let moved : decimal n ++ (b ∷ rest) ≡ (decimal n ++ (b ∷ [])) ++ rest = sym (append_assoc (decimal n) (b ∷ []) rest) in
-    let longer : decimal n ++ (b ∷ []) ≡ decimal m = sym (decimal_extended n b x) ∙ ap decimal (sym is) in
-    e ∙ (opened ∙ (moved ∙ ap (λ (l : List ℕ). l ++ rest) longer))
+pub next_digit : (rest : List ℕ) (taken n : ℕ) → taken < length rest → Extends n (get_or rest taken 0) → decimal n ++ drop taken rest ≡ decimal (n * 10 + (get_or rest taken 0 - 48)) ++ drop (taken + 1) rest
+next_digit rest taken n h x =
+    let b = get_or rest taken 0 in
+    let left = drop (taken + 1) rest in
+    ap (λ (l : List ℕ). decimal n ++ l) (drop_more rest taken 0 h)
+    ∙ (sym (append_assoc (decimal n) (b ∷ []) left) ∙ ap (λ (l : List ℕ). l ++ left) (sym (decimal_extended n b x)))
+
+-- a digit and some bytes after it are a number's digits
+pub digits_read : (digit : ℕ) (rest : List ℕ) (n taken : ℕ) → digit ∷ rest ≡ decimal n ++ drop taken rest → n < 2 ^ 32 → taken ≤ length rest → (taken < length rest → Extends n (get_or rest taken 0) → ⊥) → Digits (digit ∷ rest) 0 n (taken + 1)
+digits_read digit rest n taken text fits within whole =
+    rw add-one (record { text = text; fits = fits; some = omega arith; within = omega arith; whole = λ h. whole (omega arith) })
+
+-- after a space they are a word of the line: what is left of it begins with the space, the digit and the rest
+pub word_read : (line : List ℕ) (at : ℕ) (left : List ℕ) (n taken : ℕ) → left ≡ drop at line → 2 ≤ length left → get_or left 0 0 ≡ 32 → Digits (get_or left 1 0 ∷ take (length left - 2) (drop 2 left)) 0 n (taken + 1) → Word line at n (at + (2 + taken))
+word_read line at left n taken is room space d =
+    record { space = begins; digits = record { text = text; fits = d.fits; some = omega arith; within = within; whole = whole } }
+  where
+    long : at + length left ≡ length line
+    long = omega (arith, ap length is, length-drop at line, room)
+
+    begins : get_or line at 0 ≡ 32
+    begins = grind (arith, get_or-drop {A = ℕ} at line)
+
+    from_digit : get_or left 1 0 ∷ take (length left - 2) (drop 2 left) ≡ drop (at + 1) line
+    from_digit =
+        ap (λ (l : List ℕ). get_or left 1 0 ∷ l) (take_all (length left - 2) (drop 2 left) (omega (arith, length-drop 2 left)))
+        ∙ (sym (drop_more left 1 0 (omega arith)) ∙ (ap (drop 1) is ∙ drop-drop 1 at line))
+
+    sizes : length (take (length left - 2) (drop 2 left)) + 1 ≡ length line - (at + 1)
+    sizes = omega (arith, ap length from_digit, length-drop (at + 1) line)
+
+    text : drop (at + 1) line ≡ decimal n ++ drop (at + (2 + taken)) line
+    text =
+        sym from_digit
+        ∙ (d.text
+        ∙ ap (λ (l : List ℕ). decimal n ++ l)
+        (ap (drop (taken + 1)) from_digit ∙ (drop-drop (taken + 1) (at + 1) line ∙ ap (λ (i : ℕ). drop i line) {x = at + 1 + (taken + 1)} {y = at + (2 + taken)} (omega arith))))
+
+    within : at + (2 + taken) ≤ length line
+    within = omega (arith, d.within, sizes, long)
+
+    same_byte : get_or line (at + (2 + taken)) 0 ≡ get_or (get_or left 1 0 ∷ take (length left - 2) (drop 2 left)) (taken + 1) 0
+    same_byte =
+        ap (λ (i : ℕ). get_or line i 0) {x = at + (2 + taken)} {y = at + 1 + (taken + 1)} (omega arith)
+        ∙ (sym (get_or-drop (at + 1) line (taken + 1) 0) ∙ ap (λ (l : List ℕ). get_or l (taken + 1) 0) (sym from_digit))
+
+    whole : at + (2 + taken) < length line → Extends n (get_or line (at + (2 + taken)) 0) → ⊥
+    whole h x = d.whole (omega (arith, sizes)) (subst (Extends n) same_byte x)

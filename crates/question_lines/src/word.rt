@@ -1,61 +1,75 @@
-//! The words of a line: a space and a number each.
-ghost use Rattle.std.specs.Prelude.{◌≡◌, ◌+◌, ◌-◌, ◌*◌, ◌<◌, ◌≤◌, length, MatchOption, MatchResult, slice_index};
-ghost use Rattle.question_lines.specs.Faults.{NoWordAt, PastEnd};
-ghost use Rattle.question_lines.specs.Words.{Extends, Digits, Word};
+//! The words of a line, one after another: a space and a number each.
+ghost use Rattle.std.specs.Prelude.{◌≡◌, ◌≤◌, ◌↔◌, length, drop, IsTrue, OnErr, MatchResult};
 
+use crate::number::number;
 use fault::line::LineFault;
 
 /// The most bytes that a line may have.
 pub const LONGEST: usize = 80;
 
-/// The number with one digit more, if the byte is a digit that may follow: none follows a 0, and none may take it past 32 bits.
-fn extended(number: u32, byte: u8) -> Option<u32>
-    ensures { MatchOption result (Extends number byte → ⊥) (λ longer. Extends number byte × (longer ≡ number * 10 + (byte - 48))) }
-{
-    if number == 0 || !byte.is_ascii_digit() {
-        return None;
-    }
-    let digit = (byte - b'0') as u32;
-    number.checked_mul(10)?.checked_add(digit)
+/// A line that is read word by word, as far as a place.
+#[derive(Clone, Copy)]
+pub struct WordReader<'a> {
+    line: &'a [u8],
+    at: usize,
+    ghost short: { length line.now ≤ 80 },
+    ghost within: { at ≤ length line.now },
 }
 
-/// The number whose digits begin at a place, as far as they make one, and where it ends.
-fn number(line: &[u8], start: usize) -> (u32, usize)
-    requires starts { start < length line.now }
-    requires digit { (48 ≤ slice_index line.now start) × (slice_index line.now start ≤ 57) }
-    ensures { Digits line.now start result.0 result.1 }
-{
-    let mut number = (line[start] - b'0') as u32;
-    for next in start + 1..line.len() {
-        match extended(number, line[next]) {
-            Some(longer) => number = longer,
-            None => return (number, next),
+impl<'a> WordReader<'a> {
+    ghost use Rattle.question_lines.specs.Faults.{NoWordAt, PastEnd};
+    ghost use Rattle.question_lines.specs.Readers.{line_of, place_of};
+    ghost use Rattle.question_lines.specs.Words.{Word};
+
+    /// The words after the letter of a line.
+    pub fn after_letter(line: &'a [u8]) -> WordReader<'a>
+        requires some { 1 ≤ length line.now }
+        requires short { length line.now ≤ 80 }
+        ensures line { line_of result ≡ line.now }
+        ensures place { place_of result ≡ 1 }
+    {
+        WordReader { line, at: 1 }
+    }
+
+    /// Whether nothing of the line is left.
+    pub fn is_at_end(&self) -> bool
+        ensures { IsTrue result ↔ (place_of self.now ≡ length (line_of self.now)) }
+    {
+        self.at == self.line.len()
+    }
+
+    /// What is left of the line.
+    fn left(&self) -> &'a [u8]
+        ensures { result.now ≡ drop (place_of self.now) (line_of self.now) }
+    {
+        &self.line[self.at..]
+    }
+
+    /// Reads the next word, and gives its number.
+    pub fn number(&mut self) -> Result<u32, LineFault>
+        ensures line { line_of self.new ≡ line_of self.old }
+        ensures read { MatchResult result (λ n. Word (line_of self.old) (place_of self.old) n (place_of self.new)) (NoWordAt (line_of self.old) (place_of self.old)) }
+        ensures unread { OnErr result (self.new ≡ self.old) }
+    {
+        match self.left() {
+            [b' ', digit @ b'0'..=b'9', rest @ ..] => {
+                let (number, more) = number(*digit, rest);
+                self.at += 2 + more;
+                Ok(number)
+            }
+            // A space as the last of 80 bytes leaves no room for a digit.
+            [b' ', ..] if self.at + 1 < LONGEST => Err(LineFault::NoForm(self.at + 1)),
+            _ => Err(LineFault::NoForm(self.at)),
         }
     }
-    (number, line.len())
-}
 
-/// The number of the word at a place of a line, and where the word ends.
-pub fn word(line: &[u8], at: usize) -> Result<(u32, usize), LineFault>
-    ensures { MatchResult result (λ w. Word line.now at w.0 w.1) (NoWordAt line.now at) }
-{
-    // A space as the last of 80 bytes leaves no room for a digit.
-    if at >= line.len() || line[at] != b' ' || at + 1 >= LONGEST {
-        return Err(LineFault::NoForm(at));
+    /// Nothing may follow the last word.
+    pub fn end(&self) -> Result<(), LineFault>
+        ensures { MatchResult result (λ _. length (line_of self.now) ≤ place_of self.now) (PastEnd (line_of self.now) (place_of self.now)) }
+    {
+        if self.at < self.line.len() {
+            return Err(LineFault::NoForm(self.at));
+        }
+        Ok(())
     }
-    let start = at + 1;
-    if start >= line.len() || !line[start].is_ascii_digit() {
-        return Err(LineFault::NoForm(start));
-    }
-    Ok(number(line, start))
-}
-
-/// Nothing may follow the last word.
-pub fn end(line: &[u8], at: usize) -> Result<(), LineFault>
-    ensures { MatchResult result (λ _. length line.now ≤ at) (PastEnd line.now at) }
-{
-    if at < line.len() {
-        return Err(LineFault::NoForm(at));
-    }
-    Ok(())
 }

@@ -8,15 +8,6 @@ use question::places::Places;
 use question::told::ToldRefusal;
 use std::test::Fail;
 
-/// The leading bytes that a refusal tells.
-fn refused(line: &[u8]) -> Option<usize> {
-    match read(line) {
-        Ok(_) => None,
-        Err(LineFault::NoForm(shared)) => Some(shared),
-        Err(LineFault::Atlas(_)) => None,
-    }
-}
-
 #[test]
 fn one_number_refused(rt: HostRuntime) {
     let table: [(&[u8], usize); 27] = [
@@ -49,7 +40,7 @@ fn one_number_refused(rt: HostRuntime) {
         (b"B 1 1", 3),
     ];
     for (line, shared) in table {
-        assert_eq!(rt; refused(line), Some(shared));
+        assert_eq!(rt; read(line), Err(LineFault::NoForm(shared)));
     }
 }
 
@@ -108,58 +99,56 @@ fn more_numbers_refused(rt: HostRuntime) {
         ),
     ];
     for (line, shared) in table {
-        assert_eq!(rt; refused(line), Some(shared));
+        assert_eq!(rt; read(line), Err(LineFault::NoForm(shared)));
     }
 }
 
 #[test]
 fn allowed_lines(rt: HostRuntime) {
-    assert!(rt; matches!(read(b"K 0"), Ok(Question::Found(0))));
-    assert!(rt; matches!(read(b"K 4294967295"), Ok(Question::Found(4_294_967_295))));
-    assert!(rt; matches!(read(b"N 10"), Ok(Question::Sweep(10))));
-    assert!(rt; matches!(read(b"B 7"), Ok(Question::TakeBack(7))));
-    assert!(rt;
-        matches!(
-            read(b"S 3 350"),
-            Ok(Question::Sample {
+    let table: [(&[u8], Question); 5] = [
+        (b"K 0", Question::Found(0)),
+        (b"K 4294967295", Question::Found(4_294_967_295)),
+        (b"N 10", Question::Sweep(10)),
+        (b"B 7", Question::TakeBack(7)),
+        (
+            b"S 3 350",
+            Question::Sample {
                 place: 3,
-                limit: 350
-            })
-        )
-    );
+                limit: 350,
+            },
+        ),
+    ];
+    for (line, question) in table {
+        assert_eq!(rt; read(line), Ok(question));
+    }
 }
 
 /// The limit and the places of a line that asks for a joint sample.
 fn joint(line: &[u8]) -> Option<(u32, Places)> {
-    let Ok(question) = read(line) else {
-        return None;
-    };
-    match question {
-        Question::JointSample { limit, places } => Some((limit, places)),
+    match read(line) {
+        Ok(Question::JointSample { limit, places }) => Some((limit, places)),
         _ => None,
     }
 }
 
 #[test]
 fn places_of_a_line(rt: HostRuntime) -> Result<(), Fail> {
-    let Some(found) = joint(b"U 50 2 3") else {
+    let Some((limit, places)) = joint(b"U 50 2 3") else {
         return Err(Fail::new("refused"));
     };
-    let (limit, places) = found;
-    assert!(rt; limit == 50);
-    assert!(rt; places.as_slice() == [2, 3].as_slice());
+    assert_eq!(rt; limit, 50);
+    assert_eq!(rt; places.as_slice(), [2, 3].as_slice());
     Ok(())
 }
 
 #[test]
 fn most_places(rt: HostRuntime) -> Result<(), Fail> {
     let line = b"U 10 0 0 0 0 0 0 0 0 0 0 0 0 0 0 0 0 0 0 0 0 0 0 0 0 0 0 0 0 0 0 0 0 0 0 0 0 0 0";
-    let Some(found) = joint(line) else {
+    let Some((limit, places)) = joint(line) else {
         return Err(Fail::new("refused"));
     };
-    let (limit, places) = found;
-    assert!(rt; limit == 10);
-    assert!(rt; places.as_slice().len() == 38);
+    assert_eq!(rt; limit, 10);
+    assert_eq!(rt; places.as_slice().len(), 38);
     Ok(())
 }
 
@@ -170,8 +159,7 @@ fn written_back(rt: HostRuntime) -> Result<(), Fail> {
         let Ok(question) = read(line.as_bytes()) else {
             return Err(Fail::new("refused"));
         };
-        let written = question.to_string(rt.alloc())?;
-        assert!(rt; written.as_str() == line);
+        assert_eq!(rt; question.to_string(rt.alloc())?.as_str(), line);
     }
     Ok(())
 }
@@ -182,16 +170,25 @@ fn told(rt: HostRuntime) -> Result<(), Fail> {
         refusal: LineFault::from(AtlasFault::KOutOfBounds(65)).into(),
         line: 7,
     };
-    assert!(rt; of_atlas.to_string(rt.alloc())?.as_str() == "! 6 atlas 65 at line 7");
+    assert_eq!(rt;
+        of_atlas.to_string(rt.alloc())?.as_str(),
+        "! 6 atlas 65 at line 7"
+    );
     let of_line = ToldRefusal {
         refusal: LineFault::NoForm(3).into(),
         line: 12,
     };
-    assert!(rt; of_line.to_string(rt.alloc())?.as_str() == "! 12 line 3 at line 12");
+    assert_eq!(rt;
+        of_line.to_string(rt.alloc())?.as_str(),
+        "! 12 line 3 at line 12"
+    );
     let of_file = ToldRefusal {
         refusal: FileFault::OutOfRoom(0).into(),
         line: 0,
     };
-    assert!(rt; of_file.to_string(rt.alloc())?.as_str() == "! 5 file 0 at line 0");
+    assert_eq!(rt;
+        of_file.to_string(rt.alloc())?.as_str(),
+        "! 5 file 0 at line 0"
+    );
     Ok(())
 }

@@ -1,50 +1,45 @@
 //! Reading a question line.
-ghost use Rattle.std.specs.Prelude.{◌≡◌, ◌^◌, ◌<◌, ◌≤◌, [], ◌∷◌, length, MatchResult};
-ghost use Rattle.question_lines.specs.Lines.{spaced, Fit};
+ghost use Rattle.std.specs.Prelude.{◌≡◌, ◌≤◌, ◌∷◌, length, IfOk, MatchResult};
 ghost use Rattle.question.specs.Questions.{places_of, Reads};
 ghost use Rattle.question.specs.Refused.{Refused, NotLettered};
+ghost use Rattle.question_lines.specs.Readers.{line_of, place_of};
 ghost use Rattle.question_lines.specs.Words.{Lettering};
 
 use super::Question;
 use crate::places::Places;
 use crate::places::read::read_places;
 use fault::line::LineFault;
-use question_lines::word::{LONGEST, end, word};
+use question_lines::word::{LONGEST, WordReader};
 
-/// The number of a line whose letter takes one.
-fn one_number(line: &[u8]) -> Result<u32, LineFault>
-    requires { (1 ≤ length line.now) × (length line.now ≤ 80) }
-    ensures { MatchResult result (λ n. Lettering line.now (n ∷ [])) (NotLettered 1 1 line.now) }
+/// The numbers of a line whose letter takes so many.
+fn numbers<const N: usize>(mut words: WordReader) -> Result<[u32; N], LineFault>
+    requires first { place_of words ≡ 1 }
+    requires few { N ≤ 2 }
+    ensures read { MatchResult result (Lettering (line_of words.entry)) (NotLettered N N (line_of words.entry)) }
+    ensures many { IfOk result (λ ns. length ns ≡ N) }
 {
-    let (number, at) = word(line, 1)?;
-    end(line, at)?;
-    Ok(number)
-}
-
-/// The numbers of a line whose letter takes two.
-fn two_numbers(line: &[u8]) -> Result<(u32, u32), LineFault>
-    requires { (1 ≤ length line.now) × (length line.now ≤ 80) }
-    ensures { MatchResult result (λ p. Lettering line.now (p.0 ∷ (p.1 ∷ []))) (NotLettered 2 2 line.now) }
-{
-    let (first, after_first) = word(line, 1)?;
-    let (second, after_second) = word(line, after_first)?;
-    end(line, after_second)?;
-    Ok((first, second))
+    let mut numbers = [0; N];
+    for number in &mut numbers {
+        *number = words.number()?;
+    }
+    words.end()?;
+    Ok(numbers)
 }
 
 /// The limit and the places of a line whose letter takes both.
-fn limit_and_places(line: &[u8]) -> Result<(u32, Places), LineFault>
-    requires { (1 ≤ length line.now) × (length line.now ≤ 80) }
-    ensures { MatchResult result (λ p. Lettering line.now (p.0 ∷ places_of p.1)) (NotLettered 2 80 line.now) }
+fn limit_and_places(mut words: WordReader) -> Result<(u32, Places), LineFault>
+    requires { place_of words ≡ 1 }
+    ensures { MatchResult result (λ p. Lettering (line_of words.entry) (p.0 ∷ places_of p.1)) (NotLettered 2 80 (line_of words.entry)) }
 {
-    let (limit, at) = word(line, 1)?;
-    let places = read_places(line, at)?;
+    let limit = words.number()?;
+    let places = read_places(words)?;
     Ok((limit, places))
 }
 
 /// The question that a line asks, the line given without its newline.
 ///
 /// A line that is not allowed is refused with the most leading bytes that it shares with an allowed line, or with 80 if it is longer than that.
+#[tactic(auto, using(crate::proofs::Letters::refused_one, crate::proofs::Letters::refused_two, crate::proofs::Letters::refused_more))]
 pub fn read(line: &[u8]) -> Result<Question, LineFault>
     ensures { MatchResult result (Reads line.now) (Refused line.now) }
 {
@@ -54,16 +49,26 @@ pub fn read(line: &[u8]) -> Result<Question, LineFault>
     if line.is_empty() {
         return Err(LineFault::NoForm(0));
     }
+    let words = WordReader::after_letter(line);
     match line[0] as char {
-        'K' => Ok(Question::Found(one_number(line)?)),
-        'N' => Ok(Question::Sweep(one_number(line)?)),
-        'B' => Ok(Question::TakeBack(one_number(line)?)),
+        'K' => {
+            let [k] = numbers::<1>(words)?;
+            Ok(Question::Found(k))
+        }
+        'N' => {
+            let [m] = numbers::<1>(words)?;
+            Ok(Question::Sweep(m))
+        }
+        'B' => {
+            let [m] = numbers::<1>(words)?;
+            Ok(Question::TakeBack(m))
+        }
         'S' => {
-            let (place, limit) = two_numbers(line)?;
+            let [place, limit] = numbers::<2>(words)?;
             Ok(Question::Sample { place, limit })
         }
         'U' => {
-            let (limit, places) = limit_and_places(line)?;
+            let (limit, places) = limit_and_places(words)?;
             Ok(Question::JointSample { limit, places })
         }
         _ => Err(LineFault::NoForm(0)),

@@ -1,16 +1,14 @@
 -- A word more is a place more.
-use Rattle.std.proofs.Common.{◌∙◌, arith, length-set}
-use Rattle.question.proofs.Faults.{words_put}
-use Rattle.question.proofs.Alone.{blank_put}
+use Rattle.std.proofs.Common.{ℕ, rules, ap, length, arith, length-append}
+use Rattle.question_lines.specs.Readers.{place_of}
+use Rattle.question.proofs.Faults.{words_more}
 use Rattle.question.proofs.places.read.read_places.Goals as goal
 
-pub loop-at-preserved : goal.loop-at-preserved
-loop-at-preserved c =
-    let w = c.in_ok-place.ensures in
-    let inv = c.loop-at.invariant in (
-      words_put c.args.line.now c.args.start c.loop-at.items c.loop-at.count c.loop-at.at c.in_ok-place.place c.in_ok-place.next (omega (arith, inv.3, inv.1, w.digits.some, w.digits.within, c.requires.2)) inv.0 w,
-      omega (arith, inv.1, w.digits.some),
-      w.digits.within,
-      length-set c.loop-at.items c.loop-at.count c.in_ok-place.place ∙ inv.3,
-      blank_put c.loop-at.items c.loop-at.count c.in_ok-place.place inv.4,
-    )
+pub loop-words-preserved : goal.loop-words-preserved
+loop-words-preserved c =
+    let w = c.in_ok-number-2.ensures.read in
+    record {
+      line = search rules;
+      read = rw c.push.ensures (words_more _ _ _ (place_of c.loop-words.words) _ _ c.loop-words.invariant.read (rw c.loop-words.invariant.line at w));
+      room = omega (arith, c.loop-words.invariant.room, w.digits.some, ap length c.push.ensures, length-append {A = ℕ});
+    }

@@ -1,15 +1,16 @@
 -- The places put so far are the words read so far, each of two bytes at least.
-use Rattle.std.proofs.Common.{◌≡◌, ◌+◌, ◌-◌, ◌*◌, ◌≤◌, length, take, drop, replicate}
-use Rattle.question.proofs.places.read.read_places.Given as goal
+use Rattle.std.proofs.Common.{◌≡◌, ◌+◌, ◌-◌, ◌*◌, ◌≤◌, length}
+use Rattle.question.specs.Questions.{places_of}
+use Rattle.question_lines.specs.Readers.{line_of, place_of}
 use Rattle.question_lines.specs.Words.{Words}
+use Rattle.question.proofs.places.read.read_places.Given as goal
 
-abbrev pub invariant-loop-at : goal.invariant-loop-at
-invariant-loop-at l =
-    Words l.line l.start (take l.count l.items) l.at
-    × (3 + 2 * l.count ≤ l.at)
-    × (l.at ≤ length l.line)
-    × (length l.items ≡ 38)
-    × (drop l.count l.items ≡ replicate (38 - l.count) 0)
+abbrev pub invariant-loop-words : goal.invariant-loop-words
+invariant-loop-words l = record {
+  line : line_of l.words ≡ line_of l.fn.words;
+  read : Words (line_of l.fn.words) (place_of l.fn.words) (places_of l.places) (place_of l.words);
+  room : 3 + 2 * length (places_of l.places) ≤ place_of l.words;
+}
 
-abbrev pub decreases-loop-at : goal.decreases-loop-at
-decreases-loop-at l = length l.line - l.at
+abbrev pub decreases-loop-words : goal.decreases-loop-words
+decreases-loop-words l = length (line_of l.words) - place_of l.words
