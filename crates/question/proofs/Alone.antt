@@ -41,34 +41,14 @@ module _ (p r : Places) (same : places_of p ≡ places_of r) where
   }
 
 pub same_question : (q r : Question) → letter_of q ≡ letter_of r → numbers_of q ≡ numbers_of r → q ≡ r
-same_question (Found k) (Found m) l e = let is : k ≡ m = cc in ap Found is
-same_question (Found k) (Sweep m) l e = absurd (omega (arith, l))
-same_question (Found k) (TakeBack m) l e = absurd (omega (arith, l))
-same_question (Found k) (Sample a b) l e = absurd (omega (arith, l))
-same_question (Found k) (JointSample a b) l e = absurd (omega (arith, l))
-same_question (Sweep k) (Found m) l e = absurd (omega (arith, l))
-same_question (Sweep k) (Sweep m) l e = let is : k ≡ m = cc in ap Sweep is
-same_question (Sweep k) (TakeBack m) l e = absurd (omega (arith, l))
-same_question (Sweep k) (Sample a b) l e = absurd (omega (arith, l))
-same_question (Sweep k) (JointSample a b) l e = absurd (omega (arith, l))
-same_question (TakeBack k) (Found m) l e = absurd (omega (arith, l))
-same_question (TakeBack k) (Sweep m) l e = absurd (omega (arith, l))
-same_question (TakeBack k) (TakeBack m) l e = let is : k ≡ m = cc in ap TakeBack is
-same_question (TakeBack k) (Sample a b) l e = absurd (omega (arith, l))
-same_question (TakeBack k) (JointSample a b) l e = absurd (omega (arith, l))
-same_question (Sample k h) (Found m) l e = absurd (omega (arith, l))
-same_question (Sample k h) (Sweep m) l e = absurd (omega (arith, l))
-same_question (Sample k h) (TakeBack m) l e = absurd (omega (arith, l))
-same_question (Sample k h) (Sample a b) l e =
-    let places : k ≡ a = cc in
-    let limits : h ≡ b = cc in
-    λ i. Sample (places i) (limits i)
-same_question (Sample k h) (JointSample a b) l e = absurd (omega (arith, l))
-same_question (JointSample k h) (Found m) l e = absurd (omega (arith, l))
-same_question (JointSample k h) (Sweep m) l e = absurd (omega (arith, l))
-same_question (JointSample k h) (TakeBack m) l e = absurd (omega (arith, l))
-same_question (JointSample k h) (Sample a b) l e = absurd (omega (arith, l))
-same_question (JointSample k h) (JointSample a b) l e =
-    let limits : k ≡ a = cc in
-    let lists : places_of h ≡ places_of b = cc in
-    λ i. JointSample (limits i) (same_places h b lists i)
+same_question (Found k) r l e = grind arith
+same_question (Sweep m) r l e = grind arith
+same_question (TakeBack m) r l e = grind arith
+same_question (Sample place limit) r l e = grind arith
+same_question (JointSample limit places) (Found k) l e = grind arith
+same_question (JointSample limit places) (Sweep m) l e = grind arith
+same_question (JointSample limit places) (TakeBack m) l e = grind arith
+same_question (JointSample limit places) (Sample place other) l e = grind arith
+same_question (JointSample limit places) (JointSample other others) l e =
+    let same : places ≡ others = same_places places others (cc) in
+    cc

@@ -3,7 +3,7 @@ use Rattle.std.proofs.Common.{◌≡◌, ℕ, ◌+◌, ◌<◌, ◌≤◌, List,
 use Rattle.std.proofs.lemmas.List.{take_more_set}
 use Rattle.fault.specs.declared.line.LineFault.{LineFault}
 use Rattle.fault.specs.declared.line.LineFault.TheVariants.{NoForm, Atlas}
-use Rattle.question_lines.specs.declared.word.WordReader.{WordReader}
+use Rattle.question_lines.specs.declared.reader.WordReader.{WordReader}
 use Rattle.question_lines.specs.Faults.{NoWordAt, PastEnd}
 use Rattle.question_lines.specs.Lines.{Share, MostShared}
 use Rattle.question_lines.specs.Readers.{line_of, place_of}

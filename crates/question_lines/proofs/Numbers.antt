@@ -120,7 +120,7 @@ digits_read digit rest n taken text fits within whole =
     rw add-one (record { text = text; fits = fits; some = omega arith; within = omega arith; whole = λ h. whole (omega arith) })
 
 -- after a space they are a word of the line: what is left of it begins with the space, the digit and the rest
-pub word_read : (line : List ℕ) (at : ℕ) (left : List ℕ) (n taken : ℕ) → left ≡ drop at line → 2 ≤ length left → get_or left 0 0 ≡ 32 → Digits (get_or left 1 0 ∷ take (length left - 2) (drop 2 left)) 0 n (taken + 1) → Word line at n (at + (2 + taken))
+pub word_read : (line : List ℕ) (at : ℕ) (left : List ℕ) (n taken : ℕ) → left ≡ drop at line → 2 ≤ length left → get_or left 0 0 ≡ 32 → Digits (get_or left 1 0 ∷ take (length left - 2) (drop 2 left)) 0 n (taken + 1) → Word line at n (at + 2 + taken)
 word_read line at left n taken is room space d =
     record { space = begins; digits = record { text = text; fits = d.fits; some = omega arith; within = within; whole = whole } }
   where
@@ -138,20 +138,20 @@ word_read line at left n taken is room space d =
     sizes : length (take (length left - 2) (drop 2 left)) + 1 ≡ length line - (at + 1)
     sizes = omega (arith, ap length from_digit, length-drop (at + 1) line)
 
-    text : drop (at + 1) line ≡ decimal n ++ drop (at + (2 + taken)) line
+    text : drop (at + 1) line ≡ decimal n ++ drop (at + 2 + taken) line
     text =
         sym from_digit
         ∙ (d.text
         ∙ ap (λ (l : List ℕ). decimal n ++ l)
-        (ap (drop (taken + 1)) from_digit ∙ (drop-drop (taken + 1) (at + 1) line ∙ ap (λ (i : ℕ). drop i line) {x = at + 1 + (taken + 1)} {y = at + (2 + taken)} (omega arith))))
+        (ap (drop (taken + 1)) from_digit ∙ (drop-drop (taken + 1) (at + 1) line ∙ ap (λ (i : ℕ). drop i line) {x = at + 1 + (taken + 1)} {y = at + 2 + taken} (omega arith))))
 
-    within : at + (2 + taken) ≤ length line
+    within : at + 2 + taken ≤ length line
     within = omega (arith, d.within, sizes, long)
 
-    same_byte : get_or line (at + (2 + taken)) 0 ≡ get_or (get_or left 1 0 ∷ take (length left - 2) (drop 2 left)) (taken + 1) 0
+    same_byte : get_or line (at + 2 + taken) 0 ≡ get_or (get_or left 1 0 ∷ take (length left - 2) (drop 2 left)) (taken + 1) 0
     same_byte =
-        ap (λ (i : ℕ). get_or line i 0) {x = at + (2 + taken)} {y = at + 1 + (taken + 1)} (omega arith)
+        ap (λ (i : ℕ). get_or line i 0) {x = at + 2 + taken} {y = at + 1 + (taken + 1)} (omega arith)
         ∙ (sym (get_or-drop (at + 1) line (taken + 1) 0) ∙ ap (λ (l : List ℕ). get_or l (taken + 1) 0) (sym from_digit))
 
-    whole : at + (2 + taken) < length line → Extends n (get_or line (at + (2 + taken)) 0) → ⊥
+    whole : at + 2 + taken < length line → Extends n (get_or line (at + 2 + taken) 0) → ⊥
     whole h x = d.whole (omega (arith, sizes)) (subst (Extends n) same_byte x)

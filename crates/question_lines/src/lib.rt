@@ -2,4 +2,5 @@
 #![tactic(auto)]
 
 mod number;
+pub mod reader;
 pub mod word;

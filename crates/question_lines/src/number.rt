@@ -15,7 +15,7 @@ fn extended(number: u32, byte: u8) -> Option<u32>
 
 /// The number that a digit and the bytes after it make, as far as they make one, and how many of those bytes it takes.
 #[tactic(auto, using(crate::proofs::Numbers::first_digit, crate::proofs::Numbers::next_digit, crate::proofs::Numbers::digits_read))]
-pub(crate) fn number(digit: u8, rest: &[u8]) -> (u32, usize)
+pub(crate) fn number_from(digit: u8, rest: &[u8]) -> (u32, usize)
     requires { (48 ≤ digit) × (digit ≤ 57) }
     ensures { Digits (digit ∷ rest.now) 0 result.0 (result.1 + 1) }
 {

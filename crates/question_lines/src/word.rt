@@ -1,75 +1,43 @@
-//! The words of a line, one after another: a space and a number each.
-ghost use Rattle.std.specs.Prelude.{◌≡◌, ◌≤◌, ◌↔◌, length, drop, IsTrue, OnErr, MatchResult};
+//! The words of a line: a space and a number each.
+ghost use Rattle.std.specs.Prelude.{◌≡◌, ◌≤◌, length, drop, MatchResult};
+ghost use Rattle.question_lines.specs.Faults.{NoWordAt, PastEnd};
+ghost use Rattle.question_lines.specs.Words.{Word};
 
-use crate::number::number;
+use crate::number::number_from;
 use fault::line::LineFault;
 
 /// The most bytes that a line may have.
 pub const LONGEST: usize = 80;
 
-/// A line that is read word by word, as far as a place.
-#[derive(Clone, Copy)]
-pub struct WordReader<'a> {
-    line: &'a [u8],
-    at: usize,
-    ghost short: { length line.now ≤ 80 },
-    ghost within: { at ≤ length line.now },
+/// What stands in a line from a place on.
+fn from_place(line: &[u8], at: usize) -> &[u8]
+    ensures { result.now ≡ drop at line.now }
+{
+    line.get(at..).unwrap_or(&[])
 }
 
-impl<'a> WordReader<'a> {
-    ghost use Rattle.question_lines.specs.Faults.{NoWordAt, PastEnd};
-    ghost use Rattle.question_lines.specs.Readers.{line_of, place_of};
-    ghost use Rattle.question_lines.specs.Words.{Word};
-
-    /// The words after the letter of a line.
-    pub fn after_letter(line: &'a [u8]) -> WordReader<'a>
-        requires some { 1 ≤ length line.now }
-        requires short { length line.now ≤ 80 }
-        ensures line { line_of result ≡ line.now }
-        ensures place { place_of result ≡ 1 }
-    {
-        WordReader { line, at: 1 }
-    }
-
-    /// Whether nothing of the line is left.
-    pub fn is_at_end(&self) -> bool
-        ensures { IsTrue result ↔ (place_of self.now ≡ length (line_of self.now)) }
-    {
-        self.at == self.line.len()
-    }
-
-    /// What is left of the line.
-    fn left(&self) -> &'a [u8]
-        ensures { result.now ≡ drop (place_of self.now) (line_of self.now) }
-    {
-        &self.line[self.at..]
-    }
-
-    /// Reads the next word, and gives its number.
-    pub fn number(&mut self) -> Result<u32, LineFault>
-        ensures line { line_of self.new ≡ line_of self.old }
-        ensures read { MatchResult result (λ n. Word (line_of self.old) (place_of self.old) n (place_of self.new)) (NoWordAt (line_of self.old) (place_of self.old)) }
-        ensures unread { OnErr result (self.new ≡ self.old) }
-    {
-        match self.left() {
-            [b' ', digit @ b'0'..=b'9', rest @ ..] => {
-                let (number, more) = number(*digit, rest);
-                self.at += 2 + more;
-                Ok(number)
-            }
-            // A space as the last of 80 bytes leaves no room for a digit.
-            [b' ', ..] if self.at + 1 < LONGEST => Err(LineFault::NoForm(self.at + 1)),
-            _ => Err(LineFault::NoForm(self.at)),
+/// The number of the word at a place of a line, and where the word ends.
+pub fn word(line: &[u8], at: usize) -> Result<(u32, usize), LineFault>
+    ensures { MatchResult result (λ w. Word line.now at w.0 w.1) (NoWordAt line.now at) }
+{
+    match from_place(line, at) {
+        // A space as the last of 80 bytes leaves no room for a digit.
+        [b' ', ..] if at + 1 >= LONGEST => Err(LineFault::NoForm(at)),
+        [b' ', digit @ b'0'..=b'9', rest @ ..] => {
+            let (number, more) = number_from(*digit, rest);
+            Ok((number, at + 2 + more))
         }
+        [b' ', ..] => Err(LineFault::NoForm(at + 1)),
+        _ => Err(LineFault::NoForm(at)),
     }
+}
 
-    /// Nothing may follow the last word.
-    pub fn end(&self) -> Result<(), LineFault>
-        ensures { MatchResult result (λ _. length (line_of self.now) ≤ place_of self.now) (PastEnd (line_of self.now) (place_of self.now)) }
-    {
-        if self.at < self.line.len() {
-            return Err(LineFault::NoForm(self.at));
-        }
-        Ok(())
+/// Nothing may follow the last word.
+pub fn end(line: &[u8], at: usize) -> Result<(), LineFault>
+    ensures { MatchResult result (λ _. length line.now ≤ at) (PastEnd line.now at) }
+{
+    if at < line.len() {
+        return Err(LineFault::NoForm(at));
     }
+    Ok(())
 }

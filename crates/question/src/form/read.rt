@@ -9,7 +9,8 @@ use super::Question;
 use crate::places::Places;
 use crate::places::read::read_places;
 use fault::line::LineFault;
-use question_lines::word::{LONGEST, WordReader};
+use question_lines::reader::WordReader;
+use question_lines::word::LONGEST;
 
 /// The numbers of a line whose letter takes so many.
 fn numbers<const N: usize>(mut words: WordReader) -> Result<[u32; N], LineFault>
@@ -20,7 +21,7 @@ fn numbers<const N: usize>(mut words: WordReader) -> Result<[u32; N], LineFault>
 {
     let mut numbers = [0; N];
     for number in &mut numbers {
-        *number = words.number()?;
+        *number = words.next_number()?;
     }
     words.end()?;
     Ok(numbers)
@@ -31,7 +32,7 @@ fn limit_and_places(mut words: WordReader) -> Result<(u32, Places), LineFault>
     requires { place_of words ≡ 1 }
     ensures { MatchResult result (λ p. Lettering (line_of words.entry) (p.0 ∷ places_of p.1)) (NotLettered 2 80 (line_of words.entry)) }
 {
-    let limit = words.number()?;
+    let limit = words.next_number()?;
     let places = read_places(words)?;
     Ok((limit, places))
 }

@@ -7,16 +7,16 @@ ghost use Rattle.question_lines.specs.Words.{Words};
 
 use super::Places;
 use fault::line::LineFault;
-use question_lines::word::WordReader;
+use question_lines::reader::WordReader;
 
 /// The places that the words of a line name, from the next one to its end: at least one.
 pub(crate) fn read_places(mut words: WordReader) -> Result<Places, LineFault>
     requires { 3 ≤ place_of words }
     ensures { MatchResult result (λ p. Words (line_of words.entry) (place_of words.entry) (places_of p) (length (line_of words.entry))) (NoWords (line_of words.entry) (place_of words.entry)) }
 {
-    let mut places = Places::one(words.number()?);
+    let mut places = Places::one(words.next_number()?);
     while !words.is_at_end() {
-        places.push(words.number()?);
+        places.push(words.next_number()?);
     }
     Ok(places)
 }

@@ -13,8 +13,8 @@ returns-in_err-limit c =
 pub returns-in_err-places : goal.returns-in_err-places
 returns-in_err-places c =
     let p = err_from_is_err_and c.from_residual-in_err-places.result c.from_residual-in_err-places.ensures.1 in
-    rw (p.1, p.2) (place_missing c.in_ok-limit.limit (one_more {next = c.number.new.self} c.in_ok-limit.limit (none_taken c.args.words c.requires) c.number.ensures.line c.in_ok-limit.ensures.read) _ c.in_err-places.ensures)
+    rw (p.1, p.2) (place_missing c.in_ok-limit.limit (one_more {next = c.next_number.new.self} c.in_ok-limit.limit (none_taken c.args.words c.requires) c.next_number.ensures.line c.in_ok-limit.ensures.read) _ c.in_err-places.ensures)
 
 pub returns : goal.returns
 returns c =
-    places_taken c.in_ok-limit.limit (places_of c.in_ok-places.places) (one_more {next = c.number.new.self} c.in_ok-limit.limit (none_taken c.args.words c.requires) c.number.ensures.line c.in_ok-limit.ensures.read) c.in_ok-places.ensures
+    places_taken c.in_ok-limit.limit (places_of c.in_ok-places.places) (one_more {next = c.next_number.new.self} c.in_ok-limit.limit (none_taken c.args.words c.requires) c.next_number.ensures.line c.in_ok-limit.ensures.read) c.in_ok-places.ensures

@@ -14,7 +14,7 @@ returns-in_err-number-clause-read g c =
 pub loop-number-preserved : goal.loop-number-preserved
 loop-number-preserved g c =
     record {
-      taken = one_put c.loop-number.number-items c.loop-number.number-index c.in_ok-number.field-0 (omega arith) c.loop-number.invariant.taken c.number.ensures.line c.in_ok-number.ensures.read;
+      taken = one_put c.loop-number.number-items c.loop-number.number-index c.in_ok-number.field-0 (omega arith) c.loop-number.invariant.taken c.next_number.ensures.line c.in_ok-number.ensures.read;
       many = search rules;
     }
 

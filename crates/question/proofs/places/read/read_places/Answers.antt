@@ -6,7 +6,7 @@ use Rattle.question.proofs.places.read.read_places.Goals as goal
 
 pub loop-words-preserved : goal.loop-words-preserved
 loop-words-preserved c =
-    let w = c.in_ok-number-2.ensures.read in
+    let w = c.in_ok-next_number-2.ensures.read in
     record {
       line = search rules;
       read = rw c.push.ensures (words_more _ _ _ (place_of c.loop-words.words) _ _ c.loop-words.invariant.read (rw c.loop-words.invariant.line at w));
