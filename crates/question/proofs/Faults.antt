@@ -21,9 +21,12 @@ pub none_taken : (words : WordReader) → place_of words ≡ 1 → Taken (line_o
 none_taken words first =
     record { same = refl; so_far = subst (SoFar (get_or (line_of words) 0 0) (line_of words) []) (sym first) (start (line_of words) (omega (arith, words.within))) }
 
-pub one_more : {line ns : List ℕ} {words next : WordReader} (n : ℕ) → Taken line ns words → line_of next ≡ line_of words → Word (line_of words) (place_of words) n (place_of next) → Taken line (ns ++ (n ∷ [])) next
+one_more : {line ns : List ℕ} {words next : WordReader} (n : ℕ) → Taken line ns words → line_of next ≡ line_of words → Word (line_of words) (place_of words) n (place_of next) → Taken line (ns ++ (n ∷ [])) next
 one_more {line = line} {ns = ns} {words = words} {next = next} n t same w =
     record { same = same ∙ t.same; so_far = more (get_or line 0 0) line ns (place_of words) n (place_of next) t.so_far (subst (λ (l : List ℕ). Word l (place_of words) n (place_of next)) t.same w) }
+
+pub first_taken : (words next : WordReader) (n : ℕ) → place_of words ≡ 1 → line_of next ≡ line_of words → Word (line_of words) (place_of words) n (place_of next) → Taken (line_of words) (n ∷ []) next
+first_taken words next n first same w = one_more n (none_taken words first) same w
 
 -- into a table
 pub one_put : {line : List ℕ} {words next : WordReader} (items : List ℕ) (i n : ℕ) → i < length items → Taken line (take i items) words → line_of next ≡ line_of words → Word (line_of words) (place_of words) n (place_of next) → Taken line (take (i + 1) (set items i n)) next

@@ -37,7 +37,6 @@ impl Places {
     }
 
     /// Adds a place after the others.
-    #[tactic(auto, using(crate::proofs::Alone::blank_put))]
     fn push(&mut self, place: u32)
         requires { length (places_of self.old) < 38 }
         ensures { places_of self.new ≡ places_of self.old ++ place ∷ [] }

@@ -1,7 +1,7 @@
 -- A limit, then places.
 use Rattle.std.proofs.Common.{arith}
 use Rattle.std.proofs.lemmas.Result.{err_from_is_err_and}
-use Rattle.question.proofs.Faults.{none_left, none_taken, one_more, place_missing, places_taken}
+use Rattle.question.proofs.Faults.{first_taken, none_left, none_taken, place_missing, places_taken}
 use Rattle.question.proofs.form.read.limit_and_places.Goals as goal
 use Rattle.question.specs.Questions.{places_of}
 
@@ -13,8 +13,8 @@ returns-in_err-limit c =
 pub returns-in_err-places : goal.returns-in_err-places
 returns-in_err-places c =
     let p = err_from_is_err_and c.from_residual-in_err-places.result c.from_residual-in_err-places.ensures.1 in
-    rw (p.1, p.2) (place_missing c.in_ok-limit.limit (one_more {next = c.next_number.new.self} c.in_ok-limit.limit (none_taken c.args.words c.requires) c.next_number.ensures.line c.in_ok-limit.ensures.read) _ c.in_err-places.ensures)
+    rw (p.1, p.2) (place_missing c.in_ok-limit.limit (first_taken c.args.words c.next_number.new.self c.in_ok-limit.limit c.requires c.next_number.ensures.line c.in_ok-limit.ensures.read) _ c.in_err-places.ensures)
 
 pub returns : goal.returns
 returns c =
-    places_taken c.in_ok-limit.limit (places_of c.in_ok-places.places) (one_more {next = c.next_number.new.self} c.in_ok-limit.limit (none_taken c.args.words c.requires) c.next_number.ensures.line c.in_ok-limit.ensures.read) c.in_ok-places.ensures
+    places_taken c.in_ok-limit.limit (places_of c.in_ok-places.places) (first_taken c.args.words c.next_number.new.self c.in_ok-limit.limit c.requires c.next_number.ensures.line c.in_ok-limit.ensures.read) c.in_ok-places.ensures
