@@ -12,7 +12,7 @@ use Rattle.town.proofs.Writing.{length_joined, length_place_records, records_lon
 
 module _ {L : Type 0} (f : FileForm L) (r : Rows L) where
   pub as_many_names : length (vec_items r.tables.names) ≡ length (vec_items r.tables.ranks)
-  as_many_names = sym r.tables.names.ok.0 ∙ r.named ∙ r.tables.ranks.ok.0
+  as_many_names = sym r.tables.names.ok.0 ∙ r.sound.named ∙ r.tables.ranks.ok.0
 
   pub places_counted : length (place_records (vec_items r.tables.ranks) (vec_items r.tables.names)) ≡ vec_len r.tables.ranks
   places_counted = length_place_records (vec_items r.tables.ranks) (vec_items r.tables.names) as_many_names ∙ sym r.tables.ranks.ok.0

@@ -51,6 +51,11 @@ pub record Roomy {L : Type 0} (limits : Limits) (t : Tables L) : Type 0 where
   pub few_places : vec_len t.ranks ≤ limits.places
   pub few_arcs : vec_len t.arcs ≤ limits.arcs
 
+-- the limits are no wider than those of a town file
+pub record Few (limits : Limits) : Type 0 where
+  pub places : limits.places ≤ 4096
+  pub arcs : limits.arcs ≤ 16384
+
 -- nothing stands in the tables yet
 pub record Empty {L : Type 0} (t : Tables L) : Type 0 where
   pub ranks : vec_items t.ranks ≡ []

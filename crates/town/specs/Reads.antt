@@ -33,4 +33,4 @@ pub record Reads {L : Type 0} (f : FileForm L) (file : List ℕ) (rows : Rows L)
 
 -- room allows a file as many places and arcs as it has memory for
 abbrev pub limits_of : {L : Type 0} → Room L → Limits
-limits_of room = record { places = room.places; arcs = room.arcs }
+limits_of room = room.filling.limits

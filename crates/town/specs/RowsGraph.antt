@@ -29,10 +29,10 @@ rows_graph r = record {
   few = r.few_places;
   inside = λ w. all_as_arc (vec_len r.tables.ranks) (arriving_at w (vec_items r.tables.arcs))
       (all_kept_by (λ a. nat_eq a.to w) (λ a. a.from < vec_len r.tables.ranks) (vec_items r.tables.arcs)
-      (all_below (vec_items r.tables.arcs) (vec_len r.tables.ranks) r.inside));
+      (all_below (vec_items r.tables.arcs) (vec_len r.tables.ranks) r.sound.inside));
   beyond = λ w h. ap (λ xs. length (map as_arc xs))
-      (none_beyond (vec_items r.tables.spans) (vec_items r.tables.arcs) r.ends r.arrive r.begun r.not_past w
-      (let p = r.spanned in let o = r.tables.spans.ok.0 in omega arith));
+      (none_beyond (vec_items r.tables.spans) (vec_items r.tables.arcs) r.sound.ends r.sound.arrive r.sound.begun r.sound.not_past w
+      (let p = r.sound.spanned in let o = r.tables.spans.ok.0 in omega arith));
 }
 
 -- the records written for rows, places first, and the file that they make

@@ -1,7 +1,7 @@
 //! Town files: reading one into rows, a map with ranks and names, and writing it back.
 #![tactic(auto)]
 
-mod reading;
+mod filling;
 pub mod rejection;
 pub mod room;
 pub mod rows;

@@ -1,6 +1,6 @@
 //! Rows: a map made by an accepted town file, with the ranks and names of its places.
-ghost use Rattle.std.specs.Prelude.{◌≡◌, ◌≤◌, vec_len};
-ghost use Rattle.town.specs.Index.{froms, tos, Below, Ends, Arrive, Begun, NotPast};
+ghost use Rattle.std.specs.Prelude.{◌≤◌, vec_len};
+ghost use Rattle.town.specs.Holds.{Sound};
 
 use crate::tables::Tables;
 
@@ -15,11 +15,5 @@ pub struct Rows<M> {
     ghost some: { 1 ≤ vec_len tables.ranks },
     ghost few_places: { vec_len tables.ranks ≤ 4096 },
     ghost few_arcs: { vec_len tables.arcs ≤ 16384 },
-    ghost named: { vec_len tables.names ≡ vec_len tables.ranks },
-    ghost spanned: { vec_len tables.spans ≡ vec_len tables.ranks },
-    ghost inside: { Below (froms tables.arcs.items) (vec_len tables.ranks) },
-    ghost ends: { Ends tables.spans.items (tos tables.arcs.items) },
-    ghost arrive: { Arrive tables.spans.items (tos tables.arcs.items) },
-    ghost begun: { Begun tables.spans.items (tos tables.arcs.items) },
-    ghost not_past: { NotPast tables.spans.items (tos tables.arcs.items) },
+    ghost sound: { Sound tables },
 }

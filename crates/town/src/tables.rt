@@ -1,17 +1,38 @@
 //! The tables that a town file is read into.
+ghost use Rattle.std.specs.Prelude.{◌≡◌, ◌<◌};
+ghost use Rattle.town.specs.Index.{longer};
+
 use town_record::arc_row::ArcRow;
 use town_record::name::Name;
 
-pub mod add;
-
 /// Where the arcs that arrive at a place stand in the table of arcs: consecutively.
-#[derive(Clone, Copy)]
+#[derive(Clone, Copy, Default)]
 pub struct Span {
     pub first: u16,
     pub count: u16,
 }
 
+impl Span {
+    /// The span with one arc more, where the table has so many: it begins there if it was empty.
+    pub fn longer(self, arcs: usize) -> Span
+        requires few { arcs < 65536 }
+        requires room { self.count < 65535 }
+        ensures { result ≡ longer self arcs }
+    {
+        Span {
+            first: if self.count == 0 {
+                arcs as u16
+            } else {
+                self.first
+            },
+            count: self.count + 1,
+        }
+    }
+}
+
 /// Rank, name and span of each place, and the arcs in the order of the file, which is by to-place.
+///
+/// A place has a row in each of three tables, not one row in one table: rows lend the ranks alone as one slice, and the names alone as another.
 #[derive(Drop)]
 pub struct Tables<M> {
     pub ranks: Vec<u32>,

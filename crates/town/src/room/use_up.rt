@@ -1,11 +1,9 @@
 //! Taking the tables out of room, and putting them back.
-ghost use Rattle.std.specs.Prelude.{◌≡◌, ◌≤◌, vec_len, vec_capacity};
-ghost use Rattle.town.specs.Holds.{Empty, Roomy};
-ghost use Rattle.town.specs.Reads.{limits_of};
+ghost use Rattle.std.specs.Prelude.{◌≡◌, vec_len, vec_capacity};
 
 use super::Room;
+use crate::filling::Filling;
 use crate::tables::Tables;
-use town_record::before::Limits;
 
 /// Empties the tables; their memory stays.
 fn clear<M: Copy>(tables: &mut Tables<M>)
@@ -21,32 +19,25 @@ fn clear<M: Copy>(tables: &mut Tables<M>)
 }
 
 impl<M: Copy> Room<M> {
-    /// The empty tables, and how many places and arcs they have memory for.
-    pub(crate) fn open(self) -> (Tables<M>, Limits)
-        ensures limits { result.1 ≡ limits_of self }
-        ensures empty { Empty result.0 }
-        ensures roomy { Roomy result.1 result.0 }
-        ensures few { (result.1.places ≤ 4096) × (result.1.arcs ≤ 16384) }
+    ghost use Rattle.town.specs.Holds.{Empty};
+    ghost use Rattle.town.specs.Reads.{limits_of};
+
+    /// The empty tables.
+    pub(crate) fn open(self) -> Filling<M>
+        ensures limits { result.limits ≡ limits_of self }
+        ensures empty { Empty result.tables }
     {
-        let Room {
-            tables,
-            places,
-            arcs,
-        } = self;
-        (tables, Limits { places, arcs })
+        self.filling
     }
 
     /// The room again, whatever was read into the tables.
-    pub(crate) fn close(mut tables: Tables<M>, limits: Limits) -> Room<M>
-        requires roomy { Roomy limits tables }
-        requires few { (limits.places ≤ 4096) × (limits.arcs ≤ 16384) }
-        ensures { limits_of result ≡ limits }
+    pub(crate) fn close(filling: Filling<M>) -> Room<M>
+        ensures { limits_of result ≡ filling.limits }
     {
+        let Filling { mut tables, limits } = filling;
         clear(&mut tables);
         Room {
-            tables,
-            places: limits.places,
-            arcs: limits.arcs,
+            filling: Filling { tables, limits },
         }
     }
 }

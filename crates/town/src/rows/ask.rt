@@ -2,12 +2,14 @@
 ghost use Rattle.std.specs.Prelude.{◌≡◌, vec_len, slice_index_or};
 ghost use Rattle.town.specs.Index.{empty_span};
 ghost use Rattle.town.specs.RowsGraph.{rows_graph};
+ghost use Rattle.town.specs.SpanLaws.{arriving_at};
 
 use super::Rows;
 use crate::tables::Span;
 use graph::arc::Arc;
 use graph::map::Map;
 use measure::Measure;
+use town_record::arc_row::ArcRow;
 use town_record::name::Name;
 
 impl<M> Rows<M> {
@@ -15,11 +17,16 @@ impl<M> Rows<M> {
     fn span(&self, place: usize) -> Span
         ensures { result ≡ slice_index_or self.now.tables.spans.items place empty_span }
     {
-        if place < self.tables.spans.len() {
-            self.tables.spans[place]
-        } else {
-            Span { first: 0, count: 0 }
-        }
+        self.tables.spans.get(place).copied().unwrap_or_default()
+    }
+
+    /// The arcs that arrive at a place, in the order of the file.
+    fn arriving(&self, place: usize) -> &[ArcRow<M>]
+        ensures { result.now ≡ arriving_at place self.now.tables.arcs.items }
+    {
+        let span = self.span(place);
+        let first = span.first as usize;
+        &self.tables.arcs[first..first + span.count as usize]
     }
 
     /// The rank of each place.
@@ -54,16 +61,11 @@ impl<M: Measure> Map for Rows<M> {
     }
 
     fn arrivals(&self, place: usize) -> usize {
-        self.span(place).count as usize
+        self.arriving(place).len()
     }
 
     fn arrival(&self, place: usize, i: usize) -> Option<Arc<M>> {
-        let span = self.span(place);
-        if i >= span.count as usize {
-            return None;
-        }
-        let arc = self.tables.arcs[span.first as usize + i];
-        Some(Arc {
+        self.arriving(place).get(i).map(|arc| Arc {
             from: arc.from,
             length: arc.length,
         })

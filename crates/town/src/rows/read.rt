@@ -4,7 +4,6 @@ ghost use Rattle.town.specs.Files.{Accepted, Rejected};
 ghost use Rattle.town.specs.Reads.{Reads, limits_of};
 
 use super::Rows;
-use crate::reading::read_records;
 use crate::rejection::Rejection;
 use crate::room::Room;
 use town_record::file_measure::FileMeasure;
@@ -15,12 +14,14 @@ impl<M: FileMeasure> Rows<M> {
         ensures { MatchResult result (λ rows. Accepted M.FileMeasure.form (limits_of room) file.now × Reads M.FileMeasure.form file.now rows)
             (λ e. Rejected M.FileMeasure.form (limits_of room) file.now e.fault × (limits_of e.room ≡ limits_of room)) }
     {
-        let (mut tables, limits) = room.open();
-        match read_records(file, &mut tables, limits) {
-            Ok(()) => Ok(Rows { tables }),
+        let mut filling = room.open();
+        match filling.add_file(file) {
+            Ok(()) => Ok(Rows {
+                tables: filling.tables,
+            }),
             Err(fault) => Err(Rejection {
                 fault,
-                room: Room::close(tables, limits),
+                room: Room::close(filling),
             }),
         }
     }
