@@ -1,14 +1,14 @@
 -- The tables still fit one another when a place or an arc is added.
 use Rattle.std.proofs.Common.{◌≡◌, ℕ, zero, suc, ◌+◌, ◌<◌, ◌≤◌, List, [], ◌∷◌, ◌++◌, length, get_or, set, vec_items, vec_len, sym, refl, ap, ◌∙◌, subst, ⊎_elim, arith, length-set}
 use lib.ListN.{length-map}
-use Rattle.std.proofs.lemmas.List.{length_push, get_or_push, get_or_append_left, get_or-set_same, get_or-set_other, map_push}
+use Rattle.std.proofs.lemmas.List.{length_push, get_or_read_under, get_or_push, get_or_append_left, get_or-set_same, get_or-set_other, map_push}
 use Rattle.std.proofs.lemmas.Bool.{cases_lt, cond-true, cond-false, eq-eqb, ne_eqb}
 use Rattle.town_record.specs.declared.arc_row.ArcRow.{ArcRow}
 use Rattle.town_record.specs.declared.name.Name.{Name}
 use Rattle.town.specs.declared.tables.Span.{Span}
 use Rattle.town.specs.declared.tables.Tables.{Tables}
 use Rattle.town.specs.Index.{froms, tos, empty_span, first, count, longer, Below}
-use Rattle.town.specs.Holds.{Sound, Empty, so_far}
+use Rattle.town.specs.Holds.{Sound, so_far}
 use Rattle.town.proofs.Spans.{Spanning, longer_spanning}
 
 -- a place with no arcs changes no span
@@ -82,12 +82,16 @@ module _ {L : Type 0} (t u : Tables L) (s : Sound t) where
         rising = g.rising;
       }
 
-  pub sound_arc : (a : ArcRow L) → vec_items u.spans ≡ set (vec_items t.spans) a.to (longer (get_or (vec_items t.spans) a.to empty_span) (vec_len t.arcs)) →
+  pub sound_arc : (a : ArcRow L) (to n : ℕ) (was now : Span) → to ≡ a.to → n ≡ vec_len t.arcs → was ≡ get_or (vec_items t.spans) to was → now ≡ longer was n →
+      vec_items u.spans ≡ set (vec_items t.spans) to now →
       vec_items u.arcs ≡ vec_items t.arcs ++ a ∷ [] → u.ranks ≡ t.ranks → u.names ≡ t.names →
       a.from < vec_len t.ranks → a.to < vec_len t.ranks → (so_far t).last_to ≤ a.to → Sound u
-  sound_arc a spans arcs ranks names from to order =
+  sound_arc a place count_of_arcs was now here all is-was is-now put arcs ranks names from to order =
       let S = vec_items t.spans in
       let n = vec_len t.arcs in
+      let read = get_or_read_under S place (vec_len t.spans) was empty_span is-was (let e = s.spanned in omega arith) t.spans.ok.0 in
+      let spans : vec_items u.spans ≡ set S a.to (longer (get_or S a.to empty_span) n) =
+      put ∙ (λ i. set S (here i) (is-now i)) ∙ (λ i. set S a.to (longer (read i) (all i))) ∙ ap (λ k. set S a.to (longer (get_or S k empty_span) n)) here in
       let ts = tos (vec_items t.arcs) in
       let r : vec_len u.ranks ≡ vec_len t.ranks = ap (λ v. vec_len v) ranks in
       let m : vec_len u.names ≡ vec_len t.names = ap (λ v. vec_len v) names in
@@ -115,21 +119,3 @@ module _ {L : Type 0} (t u : Tables L) (s : Sound t) where
         old = λ j h. ap (λ xs. get_or xs j 0) more ∙ get_or_append_left ts (a.to ∷ []) 0 j (let e = arcs_long t in omega arith);
         new = ap (λ xs. get_or xs n 0) more ∙ get_or_push ts a.to 0 n (arcs_long t);
       })))
-
--- empty tables fit one another
-pub sound_empty : {L : Type 0} (t : Tables L) → Empty t → Sound t
-sound_empty t e =
-    let r : vec_len t.ranks ≡ 0 = t.ranks.ok.0 ∙ ap length e.ranks in
-    let n : vec_len t.names ≡ 0 = t.names.ok.0 ∙ ap length e.names in
-    let s : vec_len t.spans ≡ 0 = t.spans.ok.0 ∙ ap length e.spans in
-    let a : vec_len t.arcs ≡ 0 = t.arcs.ok.0 ∙ ap length e.arcs in
-    let none : (w : ℕ) → empty_span ≡ get_or (vec_items t.spans) w empty_span = λ w. sym (ap (λ xs. get_or xs w empty_span) e.spans) in
-    fitting t (omega arith) (omega arith)
-    (λ j h. absurd (omega (arith, h, length-map (vec_items t.arcs) (λ x. x.from), t.arcs.ok.0)))
-    (record {
-      ends = λ w. subst (λ x. x.first + x.count ≤ vec_len t.arcs) (none w) (omega arith);
-      arrive = λ w i. subst (λ x. i < x.count → get_or (tos (vec_items t.arcs)) (x.first + i) 0 ≡ w) (none w) (λ h. absurd (omega arith));
-      begun = λ j h. absurd (omega arith);
-      not_past = λ j h. absurd (omega arith);
-      rising = λ j h. absurd (omega arith);
-    })

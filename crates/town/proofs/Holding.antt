@@ -12,7 +12,7 @@ use Rattle.town_record.specs.declared.name.Name.{Name}
 use Rattle.town_record.proofs.Tells.{not_place, not_arc}
 use Rattle.town.specs.declared.tables.Tables.{Tables}
 use Rattle.town.specs.Files.{seen}
-use Rattle.town.specs.Holds.{Holds, Empty, so_far, place_records}
+use Rattle.town.specs.Holds.{Holds, so_far, place_records}
 use Rattle.town.specs.Index.{tos}
 use Rattle.town.proofs.Judged.{listed_ends}
 
@@ -33,8 +33,8 @@ place_records_push (r ∷ ranks) (n ∷ names) rank name e = ap (λ t. place_rec
 -- arcs listed by records have the records' to-places
 pub listed_tos : {L : Type 0} (f : FileForm L) (arcs : List (ArcRow L)) (rs : List (List ℕ)) → map (λ a. Some a) arcs ≡ map (arc_of f) rs → tos arcs ≡ map to_of rs
 listed_tos f [] [] e = refl
-listed_tos f [] (r ∷ rs) e = let never : ◌≡◌ {A = ℕ} 0 1 = cc in absurd (omega arith)
-listed_tos f (a ∷ arcs) [] e = let never : ◌≡◌ {A = ℕ} 0 1 = cc in absurd (omega arith)
+listed_tos f [] (r ∷ rs) e = cc
+listed_tos f (a ∷ arcs) [] e = cc
 listed_tos {L} f (a ∷ arcs) (r ∷ rs) e =
     let head : Some a ≡ arc_of f r = cc in
     let tail : map (λ x. Some x) arcs ≡ map (arc_of f) rs = cc in
@@ -87,12 +87,3 @@ module _ {L : Type 0} (f : FileForm L) (rs : List (List ℕ)) (t : Tables L) (h 
             ∙ sym (append_assoc (place_records (vec_items t.ranks) (vec_items t.names)) (map (arc_record f) (vec_items t.arcs)) (arc_record f a ∷ []))
             ∙ (λ i. h.written i ++ says.written i ∷ []);
       }
-
--- empty tables hold no record
-pub holds_none : {L : Type 0} (f : FileForm L) (t : Tables L) → Empty t → Holds f [] t
-holds_none f t e = record {
-  ranks = e.ranks;
-  names = ap (map (λ n. n.bytes)) e.names;
-  arcs = ap (map (λ a. Some a)) e.arcs;
-  written = (λ i. place_records (e.ranks i) (e.names i) ++ map (arc_record f) (e.arcs i));
-}

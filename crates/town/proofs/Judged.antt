@@ -1,7 +1,7 @@
 -- What a record without fault shows beside what stands before it.
-use Rattle.std.proofs.Common.{◌≡◌, ℕ, ◌<◌, ◌≤◌, Bool, true, false, ◌&&◌, ◌||◌, ltb, leb, List, Some, None, Option, refl, ap, arith}
+use Rattle.std.proofs.Common.{◌≡◌, ℕ, ◌<◌, ◌≤◌, Bool, true, false, ◌&&◌, ◌||◌, ltb, leb, List, Some, None, Option, ap, arith}
 use Rattle.std.specs.Option.{option_map}
-use Rattle.std.proofs.lemmas.Bool.{true≢false, false≢true, leb-false, ltb-false}
+use Rattle.std.proofs.lemmas.Bool.{leb-false, ltb-false}
 use Rattle.town_record.specs.FileForms.{FileForm}
 use Rattle.town_record.specs.Parts.{is_place, is_arc, from_of, to_of, length_bytes, arc_of}
 use Rattle.town_record.specs.Rules.{Faultless}
@@ -16,19 +16,14 @@ pub listed_ends : {L : Type 0} (f : FileForm L) (r : List ℕ) (a : ArcRow L) �
 listed_ends {L} f r a h = one (f.length_of (length_bytes f.used r)) h
   where
     one : (o : Option L) → ◌≡◌ {A = Option (ArcRow L)} (Some a) (option_map (λ l. record { from = from_of r; to = to_of r; length = l }) o) → (a.from ≡ from_of r) × (a.to ≡ to_of r)
-    one None e = let never : ◌≡◌ {A = ℕ} 0 1 = cc in absurd (omega arith)
+    one None e = absurd cc
     one (Some l) e = let is : a ≡ record { from = from_of r; to = to_of r; length = l } = cc in (ap (λ x. x.from) is, ap (λ x. x.to) is)
 
 first_part : (p a x y : Bool) → p ≡ true → ((p && x) || (a && y)) ≡ false → x ≡ false
-first_part true a true y e h = absurd (true≢false h)
-first_part true a false y e h = refl
-first_part false a x y e h = absurd (false≢true e)
+first_part p a x y e h = grind arith
 
 second_part : (p a x y : Bool) → p ≡ false → a ≡ true → ((p && x) || (a && y)) ≡ false → y ≡ false
-second_part false true x true d e h = absurd (true≢false h)
-second_part false true x false d e h = refl
-second_part false false x y d e h = absurd (false≢true e)
-second_part true a x y d e h = absurd (true≢false d)
+second_part p a x y d e h = grind arith
 
 module _ {L : Type 0} (f : FileForm L) (limits : Limits) (b : Before) (r : List ℕ) (good : Faultless f limits b r) where
   pub place_judged : is_place r ≡ true → (b.arcs ≡ 0) × (b.places < limits.places)

@@ -1,7 +1,6 @@
 pub mod Adding
 pub mod Asking
 pub mod Judged
-pub mod Lasts
 pub mod Spans
 pub mod Growing
 pub mod Holding

@@ -1,9 +1,10 @@
 -- What an accepted file means, once its records are in the tables.
-use Rattle.std.proofs.Common.{◌≡◌, ℕ, zero, suc, ◌+◌, ◌*◌, ◌≤◌, Bool, true, false, cond, eqb, List, [], ◌∷◌, ◌++◌, map, length, take, Some, vec_items, vec_len, filter, sym, refl, ap, ◌∙◌, ⊎_elim, append_assoc, append-nil, arith, take-add}
+use Rattle.std.proofs.Common.{◌≡◌, ℕ, zero, suc, ◌+◌, ◌*◌, ◌≤◌, Bool, true, false, cond, eqb, List, [], ◌∷◌, ◌++◌, map, length, take, Some, vec_items, vec_len, filter, sym, refl, ap, ◌∙◌, ⊎_elim, append-nil, arith, take-add}
 use lib.ListN.{length-map}
 use Rattle.std.specs.Option.{option_map}
 use Rattle.std.specs.List.{concat}
 use Rattle.std.proofs.lemmas.List.{take_all}
+use Rattle.std.proofs.lemmas.List.Folds.{concat-append}
 use Rattle.std.proofs.lemmas.Bool.{cases_Bool, cond-true, leb-false}
 use Rattle.town_record.specs.FileForms.{FileForm}
 use Rattle.town_record.specs.Parts.{is_place, rank_of, from_of, to_of, arc_of}
@@ -58,35 +59,28 @@ has_place f limits file t a h = go (record_count file) refl
         let o = t.ranks.ok.0 in
         omega arith
 
+-- an arc and the record that lists it are kept or left together
+kept_alike : {L : Type 0} (f : FileForm L) (a : ArcRow L) (r : List ℕ) (arcs : List (ArcRow L)) (rs : List (List ℕ)) → Some a ≡ arc_of f r →
+    map (λ x. Some x) (map as_arc arcs) ≡ map (arrival_of f) rs → (b : Bool) →
+    map (λ x. Some x) (map as_arc (cond b (a ∷ arcs) arcs)) ≡ map (arrival_of f) (cond b (r ∷ rs) rs)
+kept_alike f a r arcs rs head rest true = λ i. option_map as_arc (head i) ∷ rest i
+kept_alike f a r arcs rs head rest false = rest
+
 -- at each place the rows have the arcs that the records list there
 arrivals_listed : {L : Type 0} (f : FileForm L) (w : ℕ) (arcs : List (ArcRow L)) (rs : List (List ℕ)) → map (λ a. Some a) arcs ≡ map (arc_of f) rs →
     map (λ a. Some a) (map as_arc (arriving_at w arcs)) ≡ map (arrival_of f) (filter (λ r. eqb (to_of r) w) rs)
 arrivals_listed f w [] [] e = refl
-arrivals_listed f w [] (r ∷ rs) e = let never : ◌≡◌ {A = ℕ} 0 1 = cc in absurd (omega arith)
-arrivals_listed f w (a ∷ arcs) [] e = let never : ◌≡◌ {A = ℕ} 0 1 = cc in absurd (omega arith)
-arrivals_listed {L} f w (a ∷ arcs) (r ∷ rs) e =
+arrivals_listed f w [] (r ∷ rs) e = cc
+arrivals_listed f w (a ∷ arcs) [] e = cc
+arrivals_listed f w (a ∷ arcs) (r ∷ rs) e =
     let head : Some a ≡ arc_of f r = cc in
     let tail : map (λ x. Some x) arcs ≡ map (arc_of f) rs = cc in
-    let to = (listed_ends f r a head).1 in
-    let rest = arrivals_listed f w arcs rs tail in
-    go (eqb (to_of r) w) head rest
-    ∙ refl' to
-  where
-    -- the test at the arc's to-place and at the record's is one
-    go : (b : Bool) → Some a ≡ arc_of f r → map (λ x. Some x) (map as_arc (arriving_at w arcs)) ≡ map (arrival_of f) (filter (λ x. eqb (to_of x) w) rs) →
-        map (λ x. Some x) (map as_arc (cond (eqb a.to w) (a ∷ arriving_at w arcs) (arriving_at w arcs))) ≡ map (arrival_of f) (cond (eqb a.to w) (r ∷ filter (λ x. eqb (to_of x) w) rs) (filter (λ x. eqb (to_of x) w) rs))
-    go b head rest = by (eqb a.to w)
-      where
-        by : (t : Bool) → map (λ x. Some x) (map as_arc (cond t (a ∷ arriving_at w arcs) (arriving_at w arcs))) ≡ map (arrival_of f) (cond t (r ∷ filter (λ x. eqb (to_of x) w) rs) (filter (λ x. eqb (to_of x) w) rs))
-        by true = λ i. option_map as_arc (head i) ∷ rest i
-        by false = rest
-
-    refl' : a.to ≡ to_of r → map (arrival_of f) (cond (eqb a.to w) (r ∷ filter (λ x. eqb (to_of x) w) rs) (filter (λ x. eqb (to_of x) w) rs)) ≡ map (arrival_of f) (cond (eqb (to_of r) w) (r ∷ filter (λ x. eqb (to_of x) w) rs) (filter (λ x. eqb (to_of x) w) rs))
-    refl' to = ap (λ t. map (arrival_of f) (cond (eqb t w) (r ∷ filter (λ x. eqb (to_of x) w) rs) (filter (λ x. eqb (to_of x) w) rs))) to
+    let kept = filter (λ x. eqb (to_of x) w) rs in
+    kept_alike f a r (arriving_at w arcs) kept head (arrivals_listed f w arcs rs tail) (eqb a.to w)
+    ∙ ap (λ t. map (arrival_of f) (cond (eqb t w) (r ∷ kept) kept)) (listed_ends f r a head).1
 
 pub joined_push : (xs : List (List ℕ)) (x : List ℕ) → concat (xs ++ x ∷ []) ≡ concat xs ++ x
-joined_push [] x = append-nil x
-joined_push (y ∷ xs) x = ap (λ t. y ++ t) (joined_push xs x) ∙ sym (append_assoc y (concat xs) x)
+joined_push xs x = concat-append xs (x ∷ []) ∙ ap (λ t. concat xs ++ t) (append-nil x)
 
 -- the records of a file make the file
 joined_records : (file : List ℕ) (n : ℕ) → concat (records file n) ≡ take (16 * n) file

@@ -1,5 +1,5 @@
 -- Going through the records of a file.
-use Rattle.std.proofs.Common.{◌≡◌, ℕ, zero, suc, ◌+◌, ◌-◌, ◌*◌, ◌/◌, ◌%◌, ◌<◌, ◌≤◌, eqb, List, [], ◌∷◌, ◌++◌, length, get_or, take, drop, Ok, Err, Result, is_ok, refl, sym, ap, ◌∙◌, subst, inr, ⊎_elim, add-one, arith, length-drop, length-take}
+use Rattle.std.proofs.Common.{◌≡◌, ℕ, zero, suc, ◌+◌, ◌-◌, ◌*◌, ◌/◌, ◌%◌, ◌<◌, eqb, List, [], ◌∷◌, ◌++◌, length, get_or, take, drop, Ok, Err, Result, is_ok, refl, sym, ap, ◌∙◌, subst, inr, ⊎_elim, add-one, arith, length-drop, length-take}
 use Rattle.std.proofs.lemmas.Bool.{true≢false, cases_lt, ne_eqb, not_from_false}
 use Rattle.std.proofs.lemmas.List.{drop-drop}
 use Rattle.std.specs.Result.{MatchResult, IsErrAnd}
@@ -33,8 +33,8 @@ passed (Err rule) s P Q y is same h = absurd (true≢false (sym (ap is_ok is) �
 -- and otherwise tells the callee's error as that fault
 pub told : {X : Type 0} (r : Result X Rule) (s : Result X FileFault) (P : X → Type 0) (Q : Rule → Type 0) (i : ℕ) (e : FileFault) → s ≡ Err e → MatchResult r P Q →
     MatchResult r (λ x. s ≡ Ok x) (λ rule. IsErrAnd s (λ y. y ≡ fault rule i)) → (rule : Rule) × Q rule × (e ≡ fault rule i)
-told (Ok x) s P Q i e is h m = absurd (let never : ◌≡◌ {A = ℕ} 0 1 = cc in omega arith)
-told (Err rule) (Ok x) P Q i e is h m = absurd (let never : ◌≡◌ {A = ℕ} 0 1 = cc in omega arith)
+told (Ok x) s P Q i e is h m = absurd cc
+told (Err rule) (Ok x) P Q i e is h m = absurd cc
 told (Err rule) (Err y) P Q i e is h m = (rule, h, let same : e ≡ y = cc in same ∙ m)
 
 -- no rule is lower than that of whole records

@@ -1,6 +1,6 @@
 -- The spans of the places as arcs are added, over plain functions: where the arcs of a place begin, how many they are,
 -- and where each arc arrives.
-use Rattle.std.proofs.Common.{◌≡◌, ℕ, ◌+◌, ◌-◌, ◌<◌, ◌≤◌, ◌⊎◌, sym, ap, ◌∙◌, subst, ⊎_elim, arith}
+use Rattle.std.proofs.Common.{◌≡◌, ℕ, ◌+◌, ◌-◌, ◌<◌, ◌≤◌, sym, ap, ◌∙◌, subst, ⊎_elim, arith}
 use Rattle.std.proofs.lemmas.Bool.{cases_lt, cases_eq}
 
 -- the n arcs of a table stand in the spans of the places where they arrive, and these never fall
@@ -38,12 +38,9 @@ module _ (F C T F' C' T' : ℕ → ℕ) (n t : ℕ) (s : Spanning F C T n) (l : 
 
   new_end : F' t + C t ≡ n
   new_end = ⊎_elim
-      (λ h. let f = l.first_new (omega arith) in omega arith)
-      (λ h. let f = l.first_kept h in let e = to_the_end h in omega arith)
-      (cases_zero (C t))
-    where
-      cases_zero : (c : ℕ) → (c ≡ 0) ⊎ (0 < c)
-      cases_zero c = ⊎_elim (λ h. mathlib.Core.Logic.inr h) (λ h. mathlib.Core.Logic.inl (omega arith)) (cases_lt 0 c)
+      (λ some. let f = l.first_kept some in let e = to_the_end some in omega arith)
+      (λ none. let f = l.first_new (omega arith) in omega arith)
+      (cases_lt 0 (C t))
 
   longer_ends : (w : ℕ) → F' w + C' w ≤ n + 1
   longer_ends w = ⊎_elim

@@ -13,9 +13,6 @@ use Rattle.town.specs.Holds.{place_records}
 use Rattle.town.specs.Writes.{Wrote}
 use Rattle.town.proofs.Meaning.{joined_push}
 
-pub wrote_none : (rs : List (List ℕ)) (was : List ℕ) → Wrote rs 0 was was
-wrote_none rs was = record { front = refl; back = refl }
-
 pub wrote_more : (rs : List (List ℕ)) (i : ℕ) (was now next r : List ℕ) → Wrote rs i was now → i < length rs → get_or rs i [] ≡ r → length r ≡ 16 → 16 * i + 16 ≤ length now →
     next ≡ put_mid (16 * i) 16 now r → Wrote rs (i + 1) was next
 wrote_more rs i was now next r w inside is sized fits put =
@@ -36,14 +33,11 @@ pub length_joined : (rs : List (List ℕ)) → AllByRecursion (λ r. length r �
 length_joined [] h = refl
 length_joined (r ∷ rs) h = let a = length-append r (concat rs) in let b = h.0 in let c = length_joined rs h.1 in omega arith
 
-pub wrote_all : (rs : List (List ℕ)) (was now : List ℕ) → Wrote rs (length rs) was now → AllByRecursion (λ r. length r ≡ 16) rs → (now ≡ concat rs ++ drop (length (concat rs)) was) × (length (concat rs) ≡ 16 * length rs)
+pub wrote_all : (rs : List (List ℕ)) (was now : List ℕ) → Wrote rs (length rs) was now → AllByRecursion (λ r. length r ≡ 16) rs → now ≡ concat rs ++ drop (length (concat rs)) was
 wrote_all rs was now w sized =
-    let long = length_joined rs sized in (
-      sym (take-append-drop (16 * length rs) now)
-          ∙ (λ i. (w.front ∙ ap concat (take_all (length rs) rs (omega arith))) i ++ w.back i)
-          ∙ ap (λ n. concat rs ++ drop n was) (sym long),
-      long,
-    )
+    sym (take-append-drop (16 * length rs) now)
+    ∙ (λ i. (w.front ∙ ap concat (take_all (length rs) rs (omega arith))) i ++ w.back i)
+    ∙ ap (λ n. concat rs ++ drop n was) (sym (length_joined rs sized))
 
 -- the records of places and of arcs, one by one
 pub length_place_records : (ranks : List ℕ) (names : List Name) → length names ≡ length ranks → length (place_records ranks names) ≡ length ranks

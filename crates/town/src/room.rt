@@ -3,14 +3,14 @@ ghost use Rattle.town.specs.Holds.{Empty};
 
 use crate::filling::Filling;
 
+mod give_back;
 pub mod reserve;
-mod use_up;
 
 /// Empty tables with memory for so many places and arcs.
 ///
 /// To reserve it is the only step that can want memory: reading a file into it allocates nothing.
 #[derive(Drop)]
 pub struct Room<M> {
-    filling: Filling<M>,
+    pub(crate) filling: Filling<M>,
     ghost empty: { Empty filling.tables },
 }

@@ -33,6 +33,7 @@ impl Span {
 /// Rank, name and span of each place, and the arcs in the order of the file, which is by to-place.
 ///
 /// A place has a row in each of three tables, not one row in one table: rows lend the ranks alone as one slice, and the names alone as another.
+/// The arcs are one table with spans in it, not a list of arcs for each place: reading allocates nothing, and only how many arcs there may be in all is known before.
 #[derive(Drop)]
 pub struct Tables<M> {
     pub ranks: Vec<u32>,

@@ -45,7 +45,7 @@ impl<M: Copy> Filling<M> {
         ensures names { self.new.tables.names ≡ self.old.tables.names }
         ensures limits { self.new.limits ≡ self.old.limits }
     {
-        let to = arc.to as usize;
+        let to = usize::from(arc.to);
         self.tables.spans[to] = self.tables.spans[to].longer(self.tables.arcs.len());
         self.tables.arcs.push_reserved(arc);
     }

@@ -1,5 +1,5 @@
 //! Reading a file into the tables, record by record.
-ghost use Rattle.std.specs.Prelude.{◌≡◌, ℕ, List, [], ◌∷◌, ◌++◌, MatchResult, OnErr};
+ghost use Rattle.std.specs.Prelude.{◌≡◌, ℕ, ◌≤◌, List, [], ◌∷◌, ◌++◌, vec_len, MatchResult, OnOk, OnErr};
 ghost use Rattle.town_record.specs.Rules.{Faultless, Lowest};
 
 use super::Filling;
@@ -31,8 +31,9 @@ impl<M: FileMeasure> Filling<M> {
     /// Adds the records of a file to empty tables, or gives the refusal.
     pub(crate) fn add_file(&mut self, file: &[u8]) -> Result<(), FileFault>
         requires { Empty self.old.tables }
-        ensures cases { MatchResult result (λ _. Accepted M.FileMeasure.form self.old.limits file.now × Holds M.FileMeasure.form (records file.now (record_count file.now)) self.new.tables)
-            (Rejected M.FileMeasure.form self.old.limits file.now) }
+        ensures cases { MatchResult result (λ _. Accepted M.FileMeasure.form self.old.limits file.now) (Rejected M.FileMeasure.form self.old.limits file.now) }
+        ensures holds { OnOk result (Holds M.FileMeasure.form (records file.now (record_count file.now)) self.new.tables) }
+        ensures some { OnOk result (1 ≤ vec_len self.new.tables.ranks) }
         ensures limits { self.new.limits ≡ self.old.limits }
     {
         if file.is_empty() {

@@ -21,12 +21,13 @@ impl<M> Rows<M> {
     }
 
     /// The arcs that arrive at a place, in the order of the file.
+    #[tactic(auto, using(crate::proofs::Asking::part_of_span))]
     fn arriving(&self, place: usize) -> &[ArcRow<M>]
         ensures { result.now ≡ arriving_at place self.now.tables.arcs.items }
     {
         let span = self.span(place);
-        let first = span.first as usize;
-        &self.tables.arcs[first..first + span.count as usize]
+        let first = usize::from(span.first);
+        &self.tables.arcs[first..first + usize::from(span.count)]
     }
 
     /// The rank of each place.

@@ -14,14 +14,14 @@ impl<M: FileMeasure> Rows<M> {
         ensures { MatchResult result (λ rows. Accepted M.FileMeasure.form (limits_of room) file.now × Reads M.FileMeasure.form file.now rows)
             (λ e. Rejected M.FileMeasure.form (limits_of room) file.now e.fault × (limits_of e.room ≡ limits_of room)) }
     {
-        let mut filling = room.open();
+        let mut filling = room.filling;
         match filling.add_file(file) {
             Ok(()) => Ok(Rows {
                 tables: filling.tables,
             }),
             Err(fault) => Err(Rejection {
                 fault,
-                room: Room::close(filling),
+                room: filling.into_room(),
             }),
         }
     }

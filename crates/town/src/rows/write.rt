@@ -13,6 +13,8 @@ use town_record::file_measure::FileMeasure;
 use town_record::fill::{arc_record, place_record};
 
 /// Writes a record at its place in a buffer.
+///
+/// The loops below number the records and do not zip them with `chunks_exact_mut`: tried, and while such chunks are lent an invariant cannot name the bytes written.
 fn put_record(out: &mut [u8], index: usize, record: [u8; 16])
     requires { 16 * index + 16 ≤ length out.old }
     ensures { out.new ≡ put_mid (16 * index) 16 out.old «record» }
@@ -23,6 +25,7 @@ fn put_record(out: &mut [u8], index: usize, record: [u8; 16])
 
 impl<M: FileMeasure> Rows<M> {
     /// How many bytes the file has.
+    #[tactic(auto, using(crate::proofs::Filing::file_long))]
     pub fn file_length(&self) -> usize
         ensures { result ≡ length (rows_file M.FileMeasure.form self.now) }
     {
@@ -34,12 +37,9 @@ impl<M: FileMeasure> Rows<M> {
         requires { 16 * (vec_len self.now.tables.ranks + vec_len self.now.tables.arcs) ≤ length out.old }
         ensures { Wrote (rows_records M.FileMeasure.form self.now) (vec_len self.now.tables.ranks) out.old out.new }
     {
-        for i in 0..self.tables.ranks.len() {
-            put_record(
-                out,
-                i,
-                place_record(self.tables.ranks[i], self.tables.names[i]),
-            );
+        let places = self.tables.ranks.iter().zip(&self.tables.names);
+        for (i, (rank, name)) in places.enumerate() {
+            put_record(out, i, place_record(*rank, *name));
         }
     }
 
@@ -50,14 +50,14 @@ impl<M: FileMeasure> Rows<M> {
             Wrote (rows_records M.FileMeasure.form self.now) (vec_len self.now.tables.ranks + vec_len self.now.tables.arcs) was out.new }
     {
         let places = self.tables.ranks.len();
-        for j in 0..self.tables.arcs.len() {
-            put_record(out, places + j, arc_record(self.tables.arcs[j]));
+        for (j, arc) in self.tables.arcs.iter().enumerate() {
+            put_record(out, places + j, arc_record(*arc));
         }
     }
 
     /// Writes the file over the front of a buffer and gives its length; what lies past it stays.
     /// Whichever file the rows were read from, these are its bytes.
-    #[tactic(auto, using(crate::proofs::Filing::file_long))]
+    #[tactic(auto, using(crate::proofs::Filing::file_long, crate::proofs::Filing::wrote_file))]
     pub fn write(&self, out: &mut [u8]) -> Result<usize, AtlasFault>
         ensures cases { MatchResult result
             (λ n. Clear (write_causes (length (rows_file M.FileMeasure.form self.now)) (length out.old))

@@ -1,10 +1,11 @@
-use Rattle.std.proofs.Common.{◌≡◌, ◌*◌, ◌/◌, ◌++◌, ◌∷◌, ◌<◌, [], Ok, length, get_or, take, drop, ap, sym, ◌∙◌, subst, arith, rules}
+use Rattle.std.proofs.Common.{◌≡◌, ◌/◌, ◌++◌, ◌∷◌, ◌<◌, [], Ok, length, sym, ◌∙◌, subst, arith, rules}
 use Rattle.std.specs.Result.{IsErrAnd}
 use Rattle.std.proofs.lemmas.Result.{err_from_is_err_and, MatchResult-weaker}
 use Rattle.std.proofs.lemmas.Bool.{eqb-false}
 use Rattle.town_record.specs.Rules.{Faultless, Lowest, fault}
-use Rattle.town.specs.Files.{seen, records, record_at, Rejected}
+use Rattle.town.specs.Files.{seen, records, record_at}
 use Rattle.town.specs.Holds.{Holds}
+use Rattle.town.proofs.Meaning.{has_place}
 use Rattle.town.proofs.Passing.{whole_record, passed, told, found, short_rest, clean_more, accepted, holds_more}
 use Rattle.town.proofs.filling.Filling.add_file.Goals as goal
 
@@ -45,10 +46,13 @@ returns-then-not-is_empty-clause-cases g c =
     let e = eqb-false (length c.as_chunks.result.1.now) 0 (sym c.if-not-is_empty.ensures) in
     short_rest g.M.FileMeasure.form c.args.self.now.limits c.args.file.now c.loop-i.i-counter c.loop-i.invariant.clean (omega arith) (λ h. e (omega arith)) c.at.result (search rules)
 
-pub returns-clause-cases : goal.returns-clause-cases
-returns-clause-cases g c =
+pub returns : goal.returns
+returns g c =
+    let f = g.M.FileMeasure.form in
     let file = c.args.file.now in
+    let inv = c.loop-i.invariant in
     let n = c.as_chunks.ensures.front_len in
     let m = c.as_chunks.ensures.back_len in
     let some : 0 < length file = omega (arith, eqb-false (length file) 0 (sym c.if-is_empty.ensures)) in
-    accepted g.M.FileMeasure.form c.args.self.now.limits file c.loop-i.i-counter c.loop-i.invariant.clean some (omega arith) (search rules) c.loop-i.self.tables c.loop-i.invariant.holds
+    let all = accepted f c.args.self.now.limits file c.loop-i.i-counter inv.clean some (omega arith) (search rules) c.loop-i.self.tables inv.holds in
+    record { cases = all.0; holds = all.1; some = has_place f c.args.self.now.limits file c.loop-i.self.tables all.0 all.1; limits = inv.limits }
