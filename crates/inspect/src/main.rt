@@ -40,24 +40,22 @@ fn print_rows(rt: &HostRuntime, rows: &Rows<Seconds>, file: &[u8]) -> anyhow::Re
     let places = rows.places();
     let arcs = rows.arcs();
     println!(rt; "{places} places, {arcs} arcs")?;
-    for (place, (rank, name)) in rows.ranks().iter().zip(rows.names().iter()).enumerate() {
+    for (place, (rank, name)) in rows.ranks().iter().zip(rows.names()).enumerate() {
         print_place(rt, rows, place, *rank, name)?;
     }
     let mut out = vec![in rt.alloc(); 0u8; file.len()]?;
-    if written_back(rows, file, &mut out) {
-        println!(rt; "written back: the same bytes")?;
+    let bytes = if written_back(rows, file, &mut out) {
+        "the same bytes"
     } else {
-        println!(rt; "written back: other bytes")?;
-    }
+        "other bytes"
+    };
+    println!(rt; "written back: {bytes}")?;
     Ok(())
 }
 
 fn main(rt: HostRuntime) -> anyhow::Result<()> {
     // a file that cannot be opened counts as empty
-    let file = match fs::read(&rt, "town.map") {
-        Ok(bytes) => bytes,
-        Err(_) => Vec::new(rt.alloc()),
-    };
+    let file = fs::read(&rt, "town.map").unwrap_or_else(|_| Vec::new(rt.alloc()));
     let room = Room::reserve(rt.alloc(), MOST_PLACES, MOST_ARCS)?;
     match Rows::<Seconds>::read(&file, room) {
         Ok(rows) => print_rows(&rt, &rows, &file)?,

@@ -14,7 +14,7 @@ pub struct Span {
 
 impl Span {
     /// The span with one arc more, where the table has so many: it begins there if it was empty.
-    pub fn longer(self, arcs: usize) -> Span
+    pub(crate) fn longer(self, arcs: usize) -> Span
         requires few { arcs < 65536 }
         requires room { self.count < 65535 }
         ensures { result ≡ longer self arcs }

@@ -37,7 +37,7 @@ fn check_changes(
     heap: Global,
     changes: &[(usize, u8, Option<FileFault>)],
 ) -> Result<(), Fail> {
-    for (at, byte, due) in changes.iter().copied() {
+    for &(at, byte, due) in changes {
         let mut file = town();
         assert!(rt; at < 192);
         file[at] = byte;

@@ -7,6 +7,7 @@ use std::alloc::Global;
 use std::test::Fail;
 use town::room::Room;
 use town::rows::Rows;
+use town_record::before::Limits;
 
 /// A file of so many places, all alike, and arcs from the first to itself.
 fn file(heap: Global, places: u32, arcs: u32) -> Result<Vec<u8>, Fail> {
@@ -22,34 +23,29 @@ fn file(heap: Global, places: u32, arcs: u32) -> Result<Vec<u8>, Fail> {
 }
 
 /// The fault of such a file in such room.
-fn fault_of(
-    heap: Global,
-    places: u32,
-    arcs: u32,
-    room: (usize, usize),
-) -> Result<Option<FileFault>, Fail> {
+fn fault_of(heap: Global, places: u32, arcs: u32, room: Limits) -> Result<Option<FileFault>, Fail> {
     let bytes = file(heap, places, arcs)?;
-    let room: Room<Seconds> = Room::reserve(heap, room.0, room.1)?;
-    match Rows::read(&bytes, room) {
-        Ok(_) => Ok(None),
-        Err(rejection) => Ok(Some(rejection.fault)),
-    }
+    let room = Room::<Seconds>::reserve(heap, room.places, room.arcs)?;
+    Ok(
+        Rows::read(&bytes, room)
+            .err()
+            .map(|rejection| rejection.fault),
+    )
 }
 
 #[test]
 fn room_reached_and_passed(rt: HostRuntime) -> Result<(), Fail> {
     let heap = rt.alloc();
+    let room = Limits { places: 5, arcs: 7 };
     for (places, arcs, due) in [
         (5, 7, None),
         (6, 7, Some(FileFault::OutOfRoom(5))),
         (5, 8, Some(FileFault::OutOfRoom(12))),
     ] {
-        assert_eq!(rt; fault_of(heap, places, arcs, (5, 7))?, due);
+        assert_eq!(rt; fault_of(heap, places, arcs, room)?, due);
     }
-    assert_eq!(rt;
-        fault_of(heap, 1, 0, (0, 0))?,
-        Some(FileFault::OutOfRoom(0))
-    );
+    let none = Limits { places: 0, arcs: 0 };
+    assert_eq!(rt; fault_of(heap, 1, 0, none)?, Some(FileFault::OutOfRoom(0)));
     Ok(())
 }
 
@@ -57,13 +53,17 @@ fn room_reached_and_passed(rt: HostRuntime) -> Result<(), Fail> {
 fn limits_reached_and_passed(rt: HostRuntime) -> Result<(), Fail> {
     let heap = rt.alloc();
     // room above the limits does not lift them
+    let room = Limits {
+        places: 5000,
+        arcs: 20000,
+    };
     for (places, arcs, due) in [
         (4096, 0, None),
         (4097, 0, Some(FileFault::OutOfRoom(4096))),
         (1, 16384, None),
         (1, 16385, Some(FileFault::OutOfRoom(16385))),
     ] {
-        assert_eq!(rt; fault_of(heap, places, arcs, (5000, 20000))?, due);
+        assert_eq!(rt; fault_of(heap, places, arcs, room)?, due);
     }
     Ok(())
 }

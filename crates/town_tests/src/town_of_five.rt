@@ -26,10 +26,7 @@ A\0\0\x02\0\x03\0\0\0\0\0\0\0\0\0\x32"
 
 /// The rows of the town of five.
 fn rows(heap: Global) -> Result<Rows<Seconds>, Fail> {
-    match Rows::read(&town(), Room::reserve(heap, 5, 7)?) {
-        Ok(rows) => Ok(rows),
-        Err(_) => Err(Fail::new("refused")),
-    }
+    Rows::read(&town(), Room::reserve(heap, 5, 7)?).map_err(|_| Fail::new("refused"))
 }
 
 #[test]
@@ -49,7 +46,7 @@ fn places_have_their_ranks_and_names(rt: HostRuntime) -> Result<(), Fail> {
         .as_slice()
     );
     let names: [&[u8]; 5] = [b"MILL", b"QUAY", b"PARK", b"FORD", b"FARM"];
-    for (name, due) in rows.names().iter().zip(names.iter()) {
+    for (name, due) in rows.names().iter().zip(&names) {
         assert_eq!(rt; name.trimmed(), *due);
     }
     Ok(())
@@ -71,9 +68,7 @@ fn arcs_arrive_in_order(rt: HostRuntime) -> Result<(), Fail> {
         (3, 0, 1, 200),
         (3, 1, 2, 50),
     ] {
-        let Some(arc) = rows.arrival(place, i) else {
-            return Err(Fail::new("no arc"));
-        };
+        let arc = rows.arrival(place, i).ok_or_else(|| Fail::new("no arc"))?;
         assert_eq!(rt; (arc.from, arc.length.count()), (from, seconds));
     }
     Ok(())

@@ -16,8 +16,9 @@ impl<M: FileMeasure> Filling<M> {
     /// Adds what a record says to the tables, or gives the lowest rule that it breaks.
     fn add_record(&mut self, record: &[u8]) -> Result<(), Rule>
         ensures holds { (rs : List (List ℕ)) → Holds M.FileMeasure.form rs self.old.tables →
-            MatchResult result (λ _. Faultless M.FileMeasure.form self.old.limits (seen rs) «record».now × Holds M.FileMeasure.form (rs ++ «record».now ∷ []) self.new.tables)
-            (λ rule. Lowest M.FileMeasure.form self.old.limits (seen rs) «record».now rule) }
+            let f = M.FileMeasure.form in
+            MatchResult result (λ _. Faultless f self.old.limits (seen rs) «record».now × Holds f (rs ++ «record».now ∷ []) self.new.tables)
+            (λ rule. Lowest f self.old.limits (seen rs) «record».now rule) }
         ensures refused { OnErr result (self.new ≡ self.old) }
         ensures limits { self.new.limits ≡ self.old.limits }
     {

@@ -59,12 +59,10 @@ impl<M: FileMeasure> Rows<M> {
     /// Whichever file the rows were read from, these are its bytes.
     #[tactic(auto, using(crate::proofs::Filing::file_long, crate::proofs::Filing::wrote_file))]
     pub fn write(&self, out: &mut [u8]) -> Result<usize, AtlasFault>
-        ensures cases { MatchResult result
-            (λ n. Clear (write_causes (length (rows_file M.FileMeasure.form self.now)) (length out.old))
-            × (n ≡ length (rows_file M.FileMeasure.form self.now))
-            × (out.new ≡ rows_file M.FileMeasure.form self.now ++ drop (length (rows_file M.FileMeasure.form self.now)) out.old))
-            (λ f. Refused (write_causes (length (rows_file M.FileMeasure.form self.now)) (length out.old)) (atlas_refusal f)
-            × (out.new ≡ out.old)) }
+        ensures cases { let file = rows_file M.FileMeasure.form self.now in
+            MatchResult result
+            (λ n. Clear (write_causes (length file) (length out.old)) × (n ≡ length file) × (out.new ≡ file ++ drop (length file) out.old))
+            (λ f. Refused (write_causes (length file) (length out.old)) (atlas_refusal f) × (out.new ≡ out.old)) }
         ensures round_trip { (file : List ℕ) → Reads M.FileMeasure.form file self.now → length file ≤ length out.old →
             out.new ≡ file ++ drop (length file) out.old }
     {
