@@ -3,10 +3,10 @@ use Rattle.std.proofs.Common.{◌≡◌, ℕ, ◌+◌, ◌<◌, ◌≤◌, List,
 use Rattle.std.proofs.lemmas.List.{take_more_set}
 use Rattle.fault.specs.declared.line.LineFault.{LineFault}
 use Rattle.fault.specs.declared.line.LineFault.TheVariants.{NoForm, Atlas}
-use Rattle.question_lines.specs.declared.reader.WordReader.{WordReader}
+use Rattle.question.specs.declared.reader.WordReader.{WordReader}
 use Rattle.question_lines.specs.Faults.{NoWordAt, PastEnd}
 use Rattle.question_lines.specs.Lines.{Share, MostShared}
-use Rattle.question_lines.specs.Readers.{line_of, place_of}
+use Rattle.question.specs.Readers.{line_of, place_of}
 use Rattle.question_lines.specs.Words.{Lettered, Lettering, Word, Words}
 use Rattle.question_lines.proofs.Nearest.{lettering, no_word, no_word_none, past_end, spaced_many}
 use Rattle.question_lines.proofs.SoFar.{SoFar, start, more, more_words}

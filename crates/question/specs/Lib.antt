@@ -1,3 +1,4 @@
 pub mod Refused
 pub mod Questions
 pub mod Printed
+pub mod Readers

@@ -3,4 +3,5 @@
 
 pub mod form;
 pub mod places;
+mod reader;
 pub mod told;

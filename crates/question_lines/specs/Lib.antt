@@ -1,4 +1,3 @@
 pub mod Lines
 pub mod Words
 pub mod Faults
-pub mod Readers

@@ -2,5 +2,4 @@
 #![tactic(auto)]
 
 mod number;
-pub mod reader;
 pub mod word;

@@ -2,14 +2,14 @@
 ghost use Rattle.std.specs.Prelude.{◌≡◌, ◌≤◌, ◌∷◌, length, IfOk, MatchResult};
 ghost use Rattle.question.specs.Questions.{places_of, Reads};
 ghost use Rattle.question.specs.Refused.{Refused, NotLettered};
-ghost use Rattle.question_lines.specs.Readers.{line_of, place_of};
+ghost use Rattle.question.specs.Readers.{line_of, place_of};
 ghost use Rattle.question_lines.specs.Words.{Lettering};
 
 use super::Question;
 use crate::places::Places;
 use crate::places::read::read_places;
+use crate::reader::WordReader;
 use fault::line::LineFault;
-use question_lines::reader::WordReader;
 use question_lines::word::LONGEST;
 
 /// The numbers of a line whose letter takes so many.

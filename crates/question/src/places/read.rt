@@ -2,12 +2,12 @@
 ghost use Rattle.std.specs.Prelude.{◌≤◌, length, MatchResult};
 ghost use Rattle.question.specs.Questions.{places_of};
 ghost use Rattle.question.specs.Refused.{NoWords};
-ghost use Rattle.question_lines.specs.Readers.{line_of, place_of};
+ghost use Rattle.question.specs.Readers.{line_of, place_of};
 ghost use Rattle.question_lines.specs.Words.{Words};
 
 use super::Places;
+use crate::reader::WordReader;
 use fault::line::LineFault;
-use question_lines::reader::WordReader;
 
 /// The places that the words of a line name, from the next one to its end: at least one.
 pub(crate) fn read_places(mut words: WordReader) -> Result<Places, LineFault>

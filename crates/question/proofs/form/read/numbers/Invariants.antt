@@ -1,6 +1,6 @@
 -- The numbers written so far are those read so far.
 use Rattle.std.proofs.Common.{◌≡◌, length, take}
-use Rattle.question_lines.specs.Readers.{line_of}
+use Rattle.question.specs.Readers.{line_of}
 use Rattle.question.proofs.Faults.{Taken}
 use Rattle.question.proofs.form.read.numbers.Given as goal
 

@@ -1,6 +1,6 @@
 -- A word more is a place more.
 use Rattle.std.proofs.Common.{ℕ, rules, ap, length, arith, length-append}
-use Rattle.question_lines.specs.Readers.{place_of}
+use Rattle.question.specs.Readers.{place_of}
 use Rattle.question.proofs.Faults.{words_more}
 use Rattle.question.proofs.places.read.read_places.Goals as goal
 

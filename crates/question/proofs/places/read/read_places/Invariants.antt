@@ -1,7 +1,7 @@
 -- The places put so far are the words read so far, each of two bytes at least.
 use Rattle.std.proofs.Common.{◌≡◌, ◌+◌, ◌-◌, ◌*◌, ◌≤◌, length}
 use Rattle.question.specs.Questions.{places_of}
-use Rattle.question_lines.specs.Readers.{line_of, place_of}
+use Rattle.question.specs.Readers.{line_of, place_of}
 use Rattle.question_lines.specs.Words.{Words}
 use Rattle.question.proofs.places.read.read_places.Given as goal
 

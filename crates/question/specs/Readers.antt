@@ -1,6 +1,6 @@
 -- What a reader of words shows of itself.
 use Rattle.std.specs.Prelude.{ℕ, List}
-use Rattle.question_lines.specs.declared.reader.WordReader.{WordReader}
+use Rattle.question.specs.declared.reader.WordReader.{WordReader}
 
 -- the line that is read
 abbrev pub line_of : WordReader → List ℕ
