@@ -8,7 +8,7 @@ ghost use Rattle.town_record.specs.Measures.{seconds_form};
 use graph::map::Map;
 use measure::Measure;
 use measure::seconds::Seconds;
-use std::{fs, str};
+use std::fs;
 use town::room::Room;
 use town::room::reserve::{MOST_ARCS, MOST_PLACES};
 use town::rows::Rows;
@@ -30,8 +30,7 @@ fn print_place(
     name: &Name,
 ) -> anyhow::Result<()> {
     let arrivals = rows.arrivals(place);
-    let text = str::from_utf8(name.trimmed())?;
-    println!(rt; "{place} {text} {rank} {arrivals}")?;
+    println!(rt; "{place} {name} {rank} {arrivals}")?;
     Ok(())
 }
 
