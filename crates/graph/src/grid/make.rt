@@ -44,12 +44,12 @@ impl Grid {
 }
 
 /// A side, if it is 1 to 64.
-fn side(length: u32) -> Result<usize, AtlasFault>
-    ensures { MatchResult result (λ side. (side ≡ length) × Side length) (λ fault. (fault ≡ AtlasFault.SideOutOfBounds length) × (Side length → ⊥)) }
+fn side(count: u32) -> Result<usize, AtlasFault>
+    ensures { MatchResult result (λ side. (side ≡ count) × Side count) (λ fault. (fault ≡ AtlasFault.SideOutOfBounds count) × (Side count → ⊥)) }
 {
-    if (1..=MOST).contains(&length) {
-        Ok(length as usize)
+    if (1..=MOST).contains(&count) {
+        Ok(count as usize)
     } else {
-        Err(AtlasFault::SideOutOfBounds(length))
+        Err(AtlasFault::SideOutOfBounds(count))
     }
 }
