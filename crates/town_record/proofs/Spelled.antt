@@ -1,7 +1,7 @@
 -- A list's rest, and a part of it, spelled out by its elements.
 use Rattle.std.proofs.Common.{◌≡◌, ℕ, zero, suc, ◌+◌, ◌-◌, ◌<◌, ◌≤◌, List, [], ◌∷◌, length, get_or, take, drop, Some, sym, refl, ap, ◌∙◌, arith, length-drop, length-take}
-use Rattle.std.specs.List.{between, AllByRecursion}
-use Rattle.std.proofs.ByRecursion.{All-take}
+use Rattle.std.specs.List.{between}
+use Rattle.std.proofs.ByRecursion.{All-take, All-drop, All-from_get_or}
 use Rattle.std.proofs.lemmas.List.{drop_all, drop-drop, drop_more}
 use Rattle.std.proofs.lemmas.Slice.{between_to_end}
 use Rattle.town_record.specs.Bytes.{two_bytes, four_bytes}
@@ -30,11 +30,6 @@ used_bytes r used h few =
     let p : 8 + (8 - used) ≡ 16 - used = omega arith in
     ap (drop (8 - used)) (between_to_end r 8 16 (omega arith)) ∙ drop-drop (8 - used) 8 r ∙ ap (λ n. drop n r) p ∙ sym (between_to_end r (16 - used) 16 (omega arith))
 
--- bytes below 256, one by one and all together
-pub all_below : (xs : List ℕ) → ((i : ℕ) → get_or xs i 0 < 256) → AllByRecursion (λ b. b < 256) xs
-all_below [] h = tt
-all_below (x ∷ xs) h = (h 0, all_below xs (λ i. h (suc i)))
-
 module _ (r : List ℕ) (whole : length r ≡ 16) (fits : (i : ℕ) → get_or r i 0 < 256) where
   -- the numbers of a record have its bytes
   pub rank_bytes : four_bytes (rank_of r) ≡ between 4 8 r
@@ -52,9 +47,5 @@ module _ (r : List ℕ) (whole : length r ≡ 16) (fits : (i : ℕ) → get_or r
       let few = f.few in
       let k : 16 - (16 - f.used) ≡ f.used = omega arith in
       let long : length (length_bytes f.used r) ≡ f.used = simp (length-take, length-drop) (omega arith) in
-      f.writes_back (length_bytes f.used r) l long (All-take (λ b. b < 256) (16 - (16 - f.used)) (drop (16 - f.used) r) (all_drop (16 - f.used) r (all_below r fits))) e
-    where
-      all_drop : (n : ℕ) (xs : List ℕ) → AllByRecursion (λ b. b < 256) xs → AllByRecursion (λ b. b < 256) (drop n xs)
-      all_drop zero xs h = h
-      all_drop (suc n) [] h = tt
-      all_drop (suc n) (x ∷ xs) h = all_drop n xs h.1
+      let below = All-from_get_or (λ b. b < 256) r 0 (λ i h. fits i) in
+      f.writes_back (length_bytes f.used r) l long (All-take (λ b. b < 256) (16 - (16 - f.used)) (drop (16 - f.used) r) (All-drop (λ b. b < 256) (16 - f.used) r below)) e
