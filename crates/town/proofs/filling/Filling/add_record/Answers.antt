@@ -1,44 +1,32 @@
-use Rattle.std.proofs.Common.{subst}
 use Rattle.std.proofs.lemmas.Result.{err_from_is_err_and}
-use Rattle.town_record.specs.Entries.{Says}
 use Rattle.town_record.specs.Rules.{Lowest}
 use Rattle.town.proofs.Adding.{so_by_records, place_fits, place_added, arc_fits, arc_added}
 use Rattle.town.proofs.filling.Filling.add_record.Goals as goal
 
 pub add_place-requires : goal.add_place-requires
 add_place-requires g c =
-    let f = g.M.FileMeasure.form in
-    let filling = c.args.self.now in
-    let told = c.in_ok-rank.ensures in
-    place_fits f filling.limits filling.tables c.args.record.now c.so_far.result c.so_far.ensures told.0 c.in-Place.rank c.in-Place.name
-    (subst (λ e. Says f c.args.record.now e) c.in-Place.is told.1)
+    let entry = c.in_ok-rank.field-0 in
+    place_fits g.M.FileMeasure.form c.args.self.now c.args.record.now c.so_far.result c.so_far.ensures entry c.in_ok-rank.ensures c.in-Place.rank c.in-Place.name c.in-Place.is
 
 pub add_arc-requires : goal.add_arc-requires
 add_arc-requires g c =
-    let f = g.M.FileMeasure.form in
-    let filling = c.args.self.now in
-    let told = c.in_ok-rank.ensures in
-    let fits = arc_fits f filling.limits filling.tables c.args.record.now c.so_far.result c.so_far.ensures told.0 c.in-Arc.arc
-    (subst (λ e. Says f c.args.record.now e) c.in-Arc.is told.1) in
+    let entry = c.in_ok-rank.field-0 in
+    let fits = arc_fits g.M.FileMeasure.form c.args.self.now c.args.record.now c.so_far.result c.so_far.ensures entry c.in_ok-rank.ensures c.in-Arc.arc c.in-Arc.is in
     record { from = fits.0; to = fits.1; order = fits.2; room = fits.3 }
 
 pub returns-in-Place-clause-holds : goal.returns-in-Place-clause-holds
 returns-in-Place-clause-holds g c =
-    let f = g.M.FileMeasure.form in
-    let filling = c.args.self.now in
-    let told = c.in_ok-rank.ensures in
+    let entry = c.in_ok-rank.field-0 in
     let added = c.add_place.ensures in
-    place_added f filling.limits filling.tables c.args.record.now c.so_far.result c.so_far.ensures told.0 c.in-Place.rank c.in-Place.name
-    (subst (λ e. Says f c.args.record.now e) c.in-Place.is told.1) c.add_place.new.self.tables filling.sound added.ranks added.names added.arcs
+    place_added g.M.FileMeasure.form c.args.self.now c.args.record.now c.so_far.result c.so_far.ensures entry c.in_ok-rank.ensures c.in-Place.rank c.in-Place.name c.in-Place.is
+    c.add_place.new.self.tables added.ranks added.names added.arcs
 
 pub returns-in-Arc-clause-holds : goal.returns-in-Arc-clause-holds
 returns-in-Arc-clause-holds g c =
-    let f = g.M.FileMeasure.form in
-    let filling = c.args.self.now in
-    let told = c.in_ok-rank.ensures in
+    let entry = c.in_ok-rank.field-0 in
     let added = c.add_arc.ensures in
-    arc_added f filling.limits filling.tables c.args.record.now c.so_far.result c.so_far.ensures told.0 c.in-Arc.arc
-    (subst (λ e. Says f c.args.record.now e) c.in-Arc.is told.1) c.add_arc.new.self.tables added.arcs added.ranks added.names
+    arc_added g.M.FileMeasure.form c.args.self.now c.args.record.now c.so_far.result c.so_far.ensures entry c.in_ok-rank.ensures c.in-Arc.arc c.in-Arc.is
+    c.add_arc.new.self.tables added.arcs added.ranks added.names
 
 pub returns-in_err-rank-clause-holds : goal.returns-in_err-rank-clause-holds
 returns-in_err-rank-clause-holds g c =
