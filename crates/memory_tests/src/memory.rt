@@ -189,7 +189,7 @@ impl TestMemory {
         }
     }
 
-    /// The first test that fails, if any.
+    /// The first test that fails, if any. An option, for the tests ask which one it is, and none is no failure of theirs.
     pub(crate) fn first_failing(&self) -> Option<MemoryTest> {
         let memory = Memory {
             n: self.n,
