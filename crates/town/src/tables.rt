@@ -21,6 +21,7 @@ impl Span {
     {
         Span {
             first: if self.count == 0 {
+                // `as`: a `requires` bounds the number, and `try_from` would give an error that cannot come.
                 arcs as u16
             } else {
                 self.first

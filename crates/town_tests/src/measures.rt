@@ -39,29 +39,21 @@ fn the_larger_rise_counts(rt: HostRuntime) {
 #[test]
 fn fares_go_by_zones_first(rt: HostRuntime) {
     let most = 4294967295;
-    for (a, b, sum) in [
-        ((1, 5), (2, 6), (3, 11)),
-        ((65535, 5), (0, 1), (65535, 6)),
-        ((65534, most), (1, 1), (65535, most)),
-        ((65535, 5), (1, 0), (65535, most)),
+    for (a, b, zones, seconds) in [
+        (fare(1, 5), fare(2, 6), 3, 11),
+        (fare(65535, 5), fare(0, 1), 65535, 6),
+        (fare(65534, most), fare(1, 1), 65535, most),
+        (fare(65535, 5), fare(1, 0), 65535, most),
     ] {
-        let (zones, seconds) = sum;
-        let joined = fare(a.0, a.1).join(fare(b.0, b.1));
-        assert_eq!(rt; joined.write(), FaresRow { zones, seconds });
+        assert_eq!(rt; a.join(b).write(), FaresRow { zones, seconds });
     }
     assert!(rt; fare(1, most).at_most(fare(2, 0)));
     assert!(rt; !fare(2, 0).at_most(fare(1, most)));
     assert!(rt; fare(2, 3).at_most(fare(2, 3)));
     assert!(rt; !fare(2, 4).at_most(fare(2, 3)));
-    assert_eq!(rt;
-        Fares::read(FaresRow {
-            zones: 9,
-            seconds: 8,
-        })
-        .write(),
-        FaresRow {
-            zones: 9,
-            seconds: 8,
-        }
-    );
+    let row = FaresRow {
+        zones: 9,
+        seconds: 8,
+    };
+    assert_eq!(rt; Fares::read(row).write(), row);
 }
