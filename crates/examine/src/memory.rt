@@ -14,7 +14,7 @@ pub struct Memory<'a, R> {
     pub swept: u16,
     pub used: u32,
     pub order: &'a [OrderRow],
-    pub sketches: Sketches<'a, R>,
+    pub sketches: Sketches<'a, 'a, R>,
 }
 
 impl<R: Copy> Memory<'_, R> {

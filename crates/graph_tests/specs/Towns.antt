@@ -20,6 +20,10 @@ module _ {L : Type 0} (places : ℕ) (arcs : List (ℕ × Arc L)) where
   all_inside some [] = tt
   all_inside some (a ∷ those) = (mod_below a.1.from places some, all_inside some those)
 
+  -- each comes from a place of the map
+  pub arcs_to_inside : 1 ≤ places → (w : ℕ) → AllByRecursion (λ a. a.from < places) (arcs_to w)
+  arcs_to_inside some w = all_inside some (filter (λ a. (a.0 % places) == w) arcs)
+
   -- none arrives at a number that is no place
   pub none_beyond : 1 ≤ places → (w : ℕ) → places ≤ w → (those : List (ℕ × Arc L)) → filter (λ a. (a.0 % places) == w) those ≡ []
   none_beyond some w h [] = cc
@@ -34,6 +38,6 @@ module _ {L : Type 0} (places : ℕ) (arcs : List (ℕ × Arc L)) where
     arriving = arcs_to;
     some = some;
     few = few;
-    inside = λ w. all_inside some (filter (λ a. (a.0 % places) == w) arcs);
+    inside = arcs_to_inside some;
     beyond = λ w h. ap (λ those. length (map (λ a. from_inside places a.1) those)) (none_beyond some w h arcs);
   }

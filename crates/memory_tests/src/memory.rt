@@ -182,7 +182,7 @@ impl TestMemory {
     }
 
     /// The sketches, as far as rows are lent.
-    pub(crate) fn sketches(&self) -> Sketches<'_, u32> {
+    pub(crate) fn sketches(&self) -> Sketches<'_, '_, u32> {
         Sketches {
             home: &self.home[..self.home_rows.min(6)],
             cells: &self.cells[..self.cell_rows.min(16)],

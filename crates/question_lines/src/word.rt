@@ -18,7 +18,7 @@ fn from_place(line: &[u8], at: usize) -> &[u8]
 
 /// The number of the word at a place of a line, and where the word ends.
 ///
-/// The line and the place are two parameters here: this holds of every line, and a `WordReader` has one of at most 80 bytes.
+/// The line and the place are two parameters here: this holds of every line and place, also of those that no reader of words comes to.
 pub fn word(line: &[u8], at: usize) -> Result<(u32, usize), LineFault>
     ensures { MatchResult result (λ w. Word line.now at w.0 w.1) (NoWordAt line.now at) }
 {

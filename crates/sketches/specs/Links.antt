@@ -1,4 +1,4 @@
--- What linking a cell in, and unlinking it, writes.
+-- What linking a cell in writes.
 use Rattle.std.specs.Prelude.{ℕ}
 use Rattle.tables.specs.declared.rows.Cell.{Cell}
 use Rattle.tables.specs.declared.rows.Entry.{Entry}

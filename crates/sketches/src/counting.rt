@@ -13,7 +13,7 @@ fn is_within<M: Measure>(length: M::Row, limit: M) -> bool
     M::read(length).at_most(limit)
 }
 
-impl<R: Copy> Sketches<'_, R> {
+impl<R: Copy> Sketches<'_, '_, R> {
     /// The number of entries of the sketch of a place that are at most `limit` long.
     pub fn count_within<M: Measure<Row = R>>(&self, v: u16, limit: M) -> u32
         ensures { let entries = sketch M.Measure.encoding self.now.home.now self.now.cells.now v in

@@ -16,7 +16,7 @@ pub struct SketchReader<'a, R> {
     left: u32,
 }
 
-impl<'a, R: Copy> Sketches<'a, R> {
+impl<'a, R: Copy> Sketches<'_, 'a, R> {
     /// A reader of the sketch of a place, at its start.
     #[tactic(auto, using(tables::proofs::Chains::forward_few))]
     pub fn entries(&self, v: u16) -> SketchReader<'a, R>

@@ -10,7 +10,7 @@ use crate::cells::{cell_at, put_cell, put_row, row_of, set_after};
 use crate::view::Sketches;
 use tables::rows::{Cell, Entry, HomeRow, MISSING};
 
-impl<R: Copy> Sketches<'_, R> {
+impl<R: Copy> Sketches<'_, '_, R> {
     // The last cell of the sketch of a place, if it has any.
     fn last_cell(&self, v: u16) -> Option<Cell<R>>
         ensures none { (home_at self.now.home.now v).entries ≡ 0 → result ≡ None }
