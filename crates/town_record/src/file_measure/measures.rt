@@ -1,5 +1,5 @@
 //! Seconds, rise and fares in a file: 4, 2 and 8 bytes.
-ghost use Rattle.std.specs.Prelude.{refl};
+ghost use Rattle.std.specs.Prelude.{◌≡◌, if◌then◌else◌, Some, None, nat_le, refl};
 ghost use Rattle.town_record.specs.Measures.{seconds_form, rise_form, fares_form};
 
 use super::FileMeasure;
@@ -47,6 +47,13 @@ impl FileMeasure for Rise {
     }
 }
 
+/// A number of zones, if it is at most 65,535.
+fn zones_of(number: u32) -> Option<u16>
+    ensures { result ≡ (if nat_le number 65535 then Some number else None) }
+{
+    u16::try_from(number).ok()
+}
+
 impl FileMeasure for Fares {
     const BYTES: usize = 8;
 
@@ -58,7 +65,7 @@ impl FileMeasure for Fares {
 
     fn read_bytes(field: [u8; 8]) -> Option<Fares> {
         let [a, b, c, d, e, f, g, h] = field;
-        let zones = u16::try_from(u32::from_be_bytes([a, b, c, d])).ok()?;
+        let zones = zones_of(u32::from_be_bytes([a, b, c, d]))?;
         let seconds = Seconds::new(u32::from_be_bytes([e, f, g, h]));
         Some(Fares::new(zones, seconds))
     }
