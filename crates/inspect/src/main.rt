@@ -1,4 +1,4 @@
-//! Reads town.map in its folder, in seconds, and says what it found.
+//! Reads town.map in its folder, in seconds, and prints what stands in it.
 #![tactic(auto)]
 
 ghost use Rattle.std.specs.Prelude.{◌≡◌, true, length};

@@ -8,6 +8,7 @@ pub mod add;
 pub mod read;
 
 /// Tables that fit one another, with memory for as many places and arcs as the limits allow.
+// Each method that changes them says that the limits stay: what a method leaves as it was, no type can say.
 #[derive(Drop)]
 pub struct Filling<M> {
     pub tables: Tables<M>,

@@ -8,7 +8,7 @@ pub mod reserve;
 
 /// Empty tables with memory for so many places and arcs.
 ///
-/// To reserve it is the only step that can want memory: reading a file into it allocates nothing.
+/// To reserve it is the only step that allocates: reading a file into it does not.
 #[derive(Drop)]
 pub struct Room<M> {
     pub(crate) filling: Filling<M>,

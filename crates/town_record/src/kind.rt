@@ -9,7 +9,7 @@ pub(crate) const PLACE: u8 = b'P';
 /// The letter of an arc record.
 pub(crate) const ARC: u8 = b'A';
 
-/// What a record is of.
+/// Whether a record lists a place or an arc.
 #[derive(Clone, Copy, PartialEq, Eq, Debug)]
 pub(crate) enum Kind {
     Place,

@@ -3,6 +3,7 @@
 pub mod tell;
 
 /// A rule of town files, in the order of the refusals' numbers.
+// No `FileFault`, though its cases have the same names: a rule is broken by one record, which does not know its number in the file.
 #[derive(Clone, Copy, PartialEq, Eq, Debug)]
 pub enum Rule {
     /// A record is whole.

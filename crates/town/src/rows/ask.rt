@@ -66,6 +66,7 @@ impl<M: Measure> Map for Rows<M> {
     }
 
     fn arrival(&self, place: usize, i: usize) -> Option<Arc<M>> {
+        // No `From`: both types are of other crates.
         self.arriving(place).get(i).map(|arc| Arc {
             from: arc.from,
             length: arc.length,

@@ -15,6 +15,7 @@ impl<M: FileMeasure> Rows<M> {
             (λ e. Rejected M.FileMeasure.form (limits_of room) file.now e.fault × (limits_of e.room ≡ limits_of room)) }
     {
         let mut filling = room.filling;
+        // A match, and no `map_err`: each arm uses the tables up in its own way.
         match filling.add_file(file) {
             Ok(()) => Ok(Rows {
                 tables: filling.tables,

@@ -15,6 +15,7 @@ use town_record::fill::{arc_record, place_record};
 /// Writes a record at its place in a buffer.
 ///
 /// The loops below number the records and do not zip them with `chunks_exact_mut`: tried, and while such chunks are lent an invariant cannot name the bytes written.
+/// They are two: a place is written from two tables at once, an arc from one.
 fn put_record(out: &mut [u8], index: usize, record: [u8; 16])
     requires { 16 * index + 16 ≤ length out.old }
     ensures { out.new ≡ put_mid (16 * index) 16 out.old «record» }

@@ -76,7 +76,7 @@ fn read_arc<M: FileMeasure>(
     Ok(Entry::Arc(ArcRow { from, to, length }))
 }
 
-/// What a record says, standing behind what stands before it; or the lowest rule that it breaks.
+/// What a record says, or the lowest rule that it breaks, given what stands before it in the file and how much a file may hold.
 #[tactic(auto, using(crate::proofs::Told::no_letter))]
 pub fn read_record<M: FileMeasure>(
     record: &[u8],

@@ -1,4 +1,6 @@
 //! Seconds, rise and fares in a file: 4, 2 and 8 bytes.
+//!
+//! An `impl` each, and no generic one: with the number of bytes the type of the number differs, and the name by which it is read.
 ghost use Rattle.std.specs.Prelude.{◌≡◌, if◌then◌else◌, Some, None, nat_le, refl};
 ghost use Rattle.town_record.specs.Measures.{seconds_form, rise_form, fares_form};
 
