@@ -1,4 +1,4 @@
-//! A place that there is: what the calls on a heap make of the number that they are given.
+//! The numbers that places have: below 4,096. A call on a heap makes one of the number that it is given.
 ghost use Rattle.std.specs.Prelude.{◌≡◌, ◌<◌, ◌≤◌, MatchOption};
 
 use crate::PLACES;
@@ -15,6 +15,7 @@ impl Place {
     pub(crate) fn new(number: u16) -> Option<Place>
         ensures { MatchOption result (4096 ≤ number) (λ place. place.number ≡ number) }
     {
+        // Not `then`: its closure was tried, and asks for a clause of its own, that the number is below 4,096.
         if (number as usize) < PLACES {
             Some(Place { number })
         } else {

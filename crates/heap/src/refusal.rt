@@ -1,4 +1,4 @@
-//! Why a call on a heap says no.
+//! Why a call on a heap is refused.
 
 /// Why a call was refused. The heap is then as it was.
 #[derive(Clone, Copy, PartialEq, Eq, Debug)]

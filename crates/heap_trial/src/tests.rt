@@ -8,7 +8,7 @@ use measure::rise::Rise;
 use std::process::Abort;
 
 /// Lets places 0, 1, .. wait with these ranks, and drains them.
-fn drawn(ranks: &[u32], places: &mut [u16]) -> usize {
+fn drained(ranks: &[u32], places: &mut [u16]) -> usize {
     let mut heap = IndexedHeap::new();
     for (place, rank) in (0u16..).zip(ranks) {
         let _ = heap.push(place, RankPlace { rank: *rank, place });
@@ -16,9 +16,9 @@ fn drawn(ranks: &[u32], places: &mut [u16]) -> usize {
     heap.drain(places)
 }
 
-fn check_drawn(rt: &impl Abort, ranks: &[u32], expected: &[u16]) {
+fn check_drained(rt: &impl Abort, ranks: &[u32], expected: &[u16]) {
     let mut places = [9; 5];
-    let count = drawn(ranks, &mut places);
+    let count = drained(ranks, &mut places);
     assert_eq!(rt; count, expected.len());
     assert!(rt; count <= 5);
     assert_eq!(rt; &places[0..count], expected);
@@ -26,12 +26,12 @@ fn check_drawn(rt: &impl Abort, ranks: &[u32], expected: &[u16]) {
 
 #[test]
 fn small_heaps(rt: HostRuntime) {
-    check_drawn(&rt, &[], &[]);
-    check_drawn(&rt, &[7], &[0]);
-    check_drawn(&rt, &[1, 2, 3, 4], &[0, 1, 2, 3]);
-    check_drawn(&rt, &[4, 3, 2, 1], &[3, 2, 1, 0]);
-    check_drawn(&rt, &[5, 5, 5, 5, 5], &[0, 1, 2, 3, 4]);
-    check_drawn(&rt, &[3, 1, 3, 2, 1], &[1, 4, 3, 0, 2]);
+    check_drained(&rt, &[], &[]);
+    check_drained(&rt, &[7], &[0]);
+    check_drained(&rt, &[1, 2, 3, 4], &[0, 1, 2, 3]);
+    check_drained(&rt, &[4, 3, 2, 1], &[3, 2, 1, 0]);
+    check_drained(&rt, &[5, 5, 5, 5, 5], &[0, 1, 2, 3, 4]);
+    check_drained(&rt, &[3, 1, 3, 2, 1], &[1, 4, 3, 0, 2]);
 }
 
 /// The rank of a place, each from 0 to 4,095 once, since 2,731 is odd.
@@ -61,16 +61,10 @@ fn rise(millimetres: u16) -> LengthKey<Rise> {
     }
 }
 
-/// The place and the millimetres of the least.
-fn taken(heap: &mut IndexedHeap<LengthKey<Rise>>) -> Option<(u16, u16)> {
-    heap.take_least()
-        .map(|(place, key)| (place, key.length.millimetres()))
-}
-
 #[test]
 fn ill_timed_calls(rt: HostRuntime) {
     let mut heap = IndexedHeap::new();
-    assert_eq!(rt; taken(&mut heap), None);
+    assert_eq!(rt; heap.take_least(), None);
     assert_eq!(rt; heap.lower(8, rise(1)), Err(HeapRefusal::NotWaiting));
     assert_eq!(rt; heap.push(4096, rise(1)), Err(HeapRefusal::NoSuchPlace));
     assert_eq!(rt; heap.lower(65535, rise(1)), Err(HeapRefusal::NoSuchPlace));
@@ -82,8 +76,8 @@ fn ill_timed_calls(rt: HostRuntime) {
     assert_eq!(rt; heap.lower(8, rise(30)), Ok(()));
     assert_eq!(rt; heap.lower(8, rise(19)), Ok(()));
     assert!(rt; heap.contains(4095));
-    assert_eq!(rt; taken(&mut heap), Some((8, 19)));
+    assert_eq!(rt; heap.take_least(), Some((8, rise(19))));
     assert!(rt; !heap.contains(8));
-    assert_eq!(rt; taken(&mut heap), Some((4095, 20)));
-    assert_eq!(rt; taken(&mut heap), None);
+    assert_eq!(rt; heap.take_least(), Some((4095, rise(20))));
+    assert_eq!(rt; heap.take_least(), None);
 }

@@ -3,7 +3,7 @@ ghost use Rattle.std.specs.Prelude.{◌≡◌, ◌^◌, ◌<◌};
 
 pub mod measured;
 
-/// A length in seconds. `Rise` is a type of its own: it has another width, another join, and its unit is the name of what it is asked for.
+/// A length in seconds. `Rise` is a type of its own: it has another width and another join, and the method that reads it is named for its unit.
 #[derive(Clone, Copy, PartialEq, Eq, PartialOrd, Ord, Debug)]
 pub struct Seconds {
     count: u32,

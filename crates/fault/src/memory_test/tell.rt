@@ -6,6 +6,7 @@ use super::MemoryTest;
 
 impl MemoryTest {
     /// The number of this test, counted from 1.
+    // A method and no `From`: callers name it, and `as u8` alone promises nothing.
     pub fn number(self) -> u8
         ensures { result ≡ test_number self }
     {

@@ -13,9 +13,7 @@ impl<K: Key> IndexedHeap<K> {
     pub fn push(&mut self, place: u16, key: K) -> Result<(), HeapRefusal>
         ensures { Pushed self.old place key result self.new }
     {
-        let Some(known) = Place::new(place) else {
-            return Err(HeapRefusal::NoSuchPlace);
-        };
+        let known = Place::new(place).ok_or(HeapRefusal::NoSuchPlace)?;
         if self.contains(place) {
             return Err(HeapRefusal::Waiting);
         }
@@ -27,12 +25,8 @@ impl<K: Key> IndexedHeap<K> {
     pub fn lower(&mut self, place: u16, key: K) -> Result<(), HeapRefusal>
         ensures { Lowered K.Key.order self.old place key result self.new }
     {
-        let Some(known) = Place::new(place) else {
-            return Err(HeapRefusal::NoSuchPlace);
-        };
-        let Some(old) = self.key_of(place) else {
-            return Err(HeapRefusal::NotWaiting);
-        };
+        let known = Place::new(place).ok_or(HeapRefusal::NoSuchPlace)?;
+        let old = self.key_of(place).ok_or(HeapRefusal::NotWaiting)?;
         if !key.at_most(old) {
             return Err(HeapRefusal::HigherKey);
         }

@@ -42,6 +42,8 @@ impl<K: Key> IndexedHeap<K> {
         ensures { result ≡ content self.now place }
     {
         let place = Place::new(place)?;
+        // Not `then`: its closure was tried, and asks for clauses of its own, on the place's number and the key
+        // that it gives: what a closure gives in generic code is not read off its body.
         if self.table.contains(place) {
             Some(self.keys[place.number as usize])
         } else {

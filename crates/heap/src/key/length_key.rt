@@ -5,7 +5,7 @@ use crate::key::Key;
 use measure::Measure;
 
 /// A length: shorter ones come first.
-#[derive(Clone, Copy)]
+#[derive(Clone, Copy, PartialEq, Eq, Debug)]
 pub struct LengthKey<L> {
     pub length: L,
 }
