@@ -2,9 +2,12 @@
 //!
 //! The keys come beside the table and not in one struct with it: a struct of both would be the heap again
 //! without its order, and each clause would say of the keys that they stay.
+//!
+//! Five functions, three of them here, ask that a slot is below the length. That is so in this very table,
+//! and a type of slots could not say in which table.
 ghost use Rattle.std.specs.Prelude.{◌≡◌, ℕ, ◌+◌, ◌<◌, ◌≤◌, T};
 ghost use Rattle.heap.specs.Heaped.{Heaped, HeapedButAbove, HeapedButBelow, key_in};
-ghost use Rattle.heap.specs.Pairing.{waits};
+ghost use Rattle.heap.specs.Moves.{SameWaiting};
 
 use crate::PLACES;
 use crate::key::Key;
@@ -14,8 +17,7 @@ impl Table {
     /// Moves the place in a slot towards the first slot, as far as its key goes.
     pub(crate) fn sift_up<K: Key>(&mut self, keys: &[K; PLACES], from: usize)
         requires { from < self.old.len }
-        ensures len { self.new.len ≡ self.old.len }
-        ensures waiting { (p : ℕ) → waits self.new.positions p ≡ waits self.old.positions p }
+        ensures same { SameWaiting self.old self.new }
         ensures heaped { HeapedButAbove K.Key.order (key_in K.Key.order keys.now self.old.slots) self.old.len from → Heaped K.Key.order (key_in K.Key.order keys.now self.new.slots) self.old.len }
     {
         let key = self.key(keys, from);
@@ -33,8 +35,7 @@ impl Table {
 
     /// Moves the place in the first slot away from it, as far as its key goes.
     pub(crate) fn sift_down<K: Key>(&mut self, keys: &[K; PLACES])
-        ensures len { self.new.len ≡ self.old.len }
-        ensures waiting { (p : ℕ) → waits self.new.positions p ≡ waits self.old.positions p }
+        ensures same { SameWaiting self.old self.new }
         ensures heaped { HeapedButBelow K.Key.order (key_in K.Key.order keys.now self.old.slots) self.old.len 0 → Heaped K.Key.order (key_in K.Key.order keys.now self.new.slots) self.old.len }
     {
         let len = self.len();

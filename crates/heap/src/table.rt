@@ -1,9 +1,11 @@
 //! The plain table of the heap: which place stands in each slot, and in which slot each place stands.
 ghost use Rattle.std.specs.Prelude.{◌≡◌, ℕ, ◌+◌, ◌-◌, ◌<◌, ◌≤◌, true, false, length, if◌then◌else◌, nat_eq, slice_index, slice_set};
-ghost use Rattle.heap.specs.Pairing.{Filled, Placed, exchange, mark, waits};
+ghost use Rattle.heap.specs.Pairing.{Filled, Placed, mark, waits};
 
 use crate::PLACES;
 use crate::place::Place;
+
+mod swap;
 
 /// The mark of a place that stands in no slot.
 // A number and not `None`: with marks of `Option<u16>` the table is 24 KiB in place of 16, and each change
@@ -71,20 +73,6 @@ impl Table {
         ensures { result ≡ mark self.now.positions place.number }
     {
         self.positions[place.number as usize]
-    }
-
-    /// Exchanges the places in two slots.
-    pub(crate) fn swap(&mut self, i: usize, j: usize)
-        requires { (i < self.old.len) × (j < self.old.len) }
-        ensures len { self.new.len ≡ self.old.len }
-        ensures slots { self.new.slots ≡ exchange self.old.slots i j }
-        ensures waiting { (p : ℕ) → waits self.new.positions p ≡ waits self.old.positions p }
-    {
-        let a = self.slots[i];
-        let b = self.slots[j];
-        self.slots.swap(i, j);
-        self.positions[a as usize] = j as u16;
-        self.positions[b as usize] = i as u16;
     }
 
     /// Puts an absent place into the slot past the last.

@@ -5,7 +5,7 @@ use Rattle.heap.proofs.indexed_heap.IndexedHeap.insert.Goals as goal
 pub returns-clause-with : goal.returns-clause-with
 returns-clause-with g c =
     with_written c.args.self.now _ c.args.place.number c.args.key c.args.place.known refl
-    (λ p. c.sift_up.ensures.waiting p ∙ c.append.ensures.waiting p)
+    (λ p. c.sift_up.ensures.same.waiting p ∙ c.append.ensures.waiting p)
 
 pub invariant_of-self-clause-ordered : goal.invariant_of-self-clause-ordered
 invariant_of-self-clause-ordered g c i pos lt =

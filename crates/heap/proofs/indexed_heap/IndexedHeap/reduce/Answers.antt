@@ -9,7 +9,7 @@ returns-clause-with g c =
     let place = c.args.place in
     let waits = waits_from_by h place.number _ c.requires in
     with_written h _ place.number c.args.key place.known refl
-    (λ p. let a = c.sift_up.ensures.waiting p in let b = eqb_tells p place.number in grind arith)
+    (λ p. let a = c.sift_up.ensures.same.waiting p in let b = eqb_tells p place.number in grind arith)
 
 pub invariant_of-self-clause-ordered : goal.invariant_of-self-clause-ordered
 invariant_of-self-clause-ordered g c i pos lt =

@@ -28,9 +28,9 @@ returns g c =
       least = first_key_least h place _ first some;
       rest = with_removed h _ place refl
           (λ p.
-          let a = c.sift_down.ensures.waiting p in
+          let a = c.sift_down.ensures.same.waiting p in
           let b = c.remove_last-place.ensures.waiting p in
-          let d = c.swap.ensures.waiting p in
+          let d = c.swap.ensures.same.waiting p in
           cc);
-      fewer = one_more _ h (omega (arith, c.sift_down.ensures.len));
+      fewer = one_more _ h (omega (arith, c.sift_down.ensures.same.len));
     }

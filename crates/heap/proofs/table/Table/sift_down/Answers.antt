@@ -14,10 +14,9 @@ returns-then-at_most g c =
     let f = key_in o c.args.keys.now t.slots in
     let more : o.at_most (f at) (f child) ≡ true = cc in
     record {
-      len = c.loop-at.invariant.1;
-      waiting = c.loop-at.invariant.2;
+      same = c.loop-at.invariant.1;
       heaped = λ h.
-          down_done o f f _ at child (c.loop-at.invariant.4 h)
+          down_done o f f _ at child (c.loop-at.invariant.3 h)
           (λ i pos lt e. c.least_below-child.ensures.least i (omega arith) (omega arith) (omega arith)) (subst T (sym more) tt);
     }
 
@@ -33,10 +32,12 @@ loop-at-preserved g c =
     let w = keys_swapped t at child (omega arith) (omega arith) o c.args.keys.now _ c.swap.ensures.slots in
     let less : o.at_most (before at) (before child) ≡ false = cc in (
       omega arith,
-      c.swap.ensures.len ∙ c.loop-at.invariant.1,
-      (λ p. c.swap.ensures.waiting p ∙ c.loop-at.invariant.2 p),
-      c.loop-at.invariant.3 ∙ sym w.1,
+      record {
+        len = c.swap.ensures.same.len ∙ c.loop-at.invariant.1.len;
+        waiting = λ p. c.swap.ensures.same.waiting p ∙ c.loop-at.invariant.1.waiting p;
+      },
+      c.loop-at.invariant.2 ∙ sym w.1,
       (λ h.
-          down_step o before after _ at child (omega arith) (omega arith) (omega arith) (c.loop-at.invariant.4 h)
+          down_step o before after _ at child (omega arith) (omega arith) (omega arith) (c.loop-at.invariant.3 h)
           (λ i pos lt e. c.least_below-child.ensures.least i (omega arith) (omega arith) (omega arith)) (turned o _ _ less) w),
     )

@@ -14,8 +14,10 @@ loop-at-preserved g c =
     let w = keys_swapped t (above at) at (omega arith) (omega arith) o c.args.keys.now _ c.swap.ensures.slots in
     let less : o.at_most (before (above at)) (before at) ≡ false = cc in (
       omega arith,
-      c.swap.ensures.len ∙ c.loop-at.invariant.1,
-      (λ p. c.swap.ensures.waiting p ∙ c.loop-at.invariant.2 p),
-      c.loop-at.invariant.3 ∙ sym w.0,
-      (λ h. up_step o before after _ at c.loop-at-test.true c.loop-at.invariant.0 (c.loop-at.invariant.4 h) (turned o _ _ less) w),
+      record {
+        len = c.swap.ensures.same.len ∙ c.loop-at.invariant.1.len;
+        waiting = λ p. c.swap.ensures.same.waiting p ∙ c.loop-at.invariant.1.waiting p;
+      },
+      c.loop-at.invariant.2 ∙ sym w.0,
+      (λ h. up_step o before after _ at c.loop-at-test.true c.loop-at.invariant.0 (c.loop-at.invariant.3 h) (turned o _ _ less) w),
     )

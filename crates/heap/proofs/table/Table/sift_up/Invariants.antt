@@ -1,13 +1,12 @@
-use Rattle.std.proofs.Common.{◌≡◌, ℕ, ◌<◌}
+use Rattle.std.proofs.Common.{◌≡◌, ◌<◌}
 use Rattle.heap.specs.Heaped.{HeapedButAbove, key_in}
-use Rattle.heap.specs.Pairing.{waits}
+use Rattle.heap.specs.Moves.{SameWaiting}
 use Rattle.heap.proofs.table.Table.sift_up.Given as goal
 
 abbrev pub invariant-loop-at : goal.invariant-loop-at
 invariant-loop-at g l =
     (l.at < l.initial.self.len)
-    × (l.self.len ≡ l.initial.self.len)
-    × ((p : ℕ) → waits l.self.positions p ≡ waits l.initial.self.positions p)
+    × SameWaiting l.initial.self l.self
     × (l.key ≡ key_in g.K.Key.order l.keys l.self.slots l.at)
     × (HeapedButAbove g.K.Key.order (key_in g.K.Key.order l.keys l.initial.self.slots) l.initial.self.len l.from
     → HeapedButAbove g.K.Key.order (key_in g.K.Key.order l.keys l.self.slots) l.initial.self.len l.at)
