@@ -6,7 +6,7 @@ use crate::memory::Memory;
 use tables::rows::MISSING;
 
 impl<R: Copy> Memory<'_, R> {
-    // How many entries the sketches of n places have together, as their rows say.
+    /// How many entries the sketches of n places have together, as their rows say.
     fn total(&self) -> u64
         ensures { result ≡ entries_total self.now.n self.now.sketches.home.now }
     {
@@ -14,7 +14,7 @@ impl<R: Copy> Memory<'_, R> {
         rows.map(|row| row.entries as u64).sum()
     }
 
-    // How many cells name a noting place below n.
+    /// How many cells name a noting place below n.
     fn taken(&self) -> usize
         ensures { result ≡ cells_taken self.now.n self.now.sketches.cells.now }
     {
@@ -22,6 +22,7 @@ impl<R: Copy> Memory<'_, R> {
         cells.filter(|cell| cell.owner < self.n).count()
     }
 
+    /// Whether the sketches have `used` entries together, and as many cells name a noting place below n.
     pub(crate) fn counts_hold(&self) -> bool
         ensures { IsTrue result ↔ CountsTest self.now.n self.now.used self.now.sketches.home.now self.now.sketches.cells.now }
     {

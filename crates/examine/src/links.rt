@@ -8,7 +8,7 @@ use crate::memory::Memory;
 use sketches::cells::{cell_at, cells_there, row_of};
 use tables::rows::{Cell, MISSING};
 
-// Whether a cell is one of v, and names the number `before` as the cell before it.
+/// Whether a cell is one of v, and names the number `before` as the cell before it.
 fn follows<R: Copy>(cell: Cell<R>, v: u16, before: u32) -> bool
     ensures { IsTrue result ↔ ((cell.owner ≡ v) × (cell.before ≡ before)) }
 {
@@ -16,7 +16,7 @@ fn follows<R: Copy>(cell: Cell<R>, v: u16, before: u32) -> bool
 }
 
 impl<R: Copy> Memory<'_, R> {
-    // Whether the sketch of a place is linked, from its row to its cells and back.
+    /// Whether the sketch of a place is linked, from its row to its cells and back.
     fn is_linked(&self, v: u16) -> bool
         ensures { IsTrue result ↔ Linked self.now.sketches.home.now self.now.sketches.cells.now v }
     {
@@ -37,6 +37,7 @@ impl<R: Copy> Memory<'_, R> {
         at == MISSING && row.last == before
     }
 
+    /// Whether the cells used are there, and the sketch of each place is linked.
     pub(crate) fn links_hold(&self) -> bool
         ensures { IsTrue result ↔ LinksTest self.now.n self.now.used self.now.sketches.home.now self.now.sketches.cells.now }
     {

@@ -9,7 +9,7 @@ use sketches::cells::row_of;
 use tables::rows::OrderRow;
 
 impl<R: Copy> Memory<'_, R> {
-    // The row of a position; past the table's end rank 0, which no position has.
+    /// The row of a position; past the table's end rank 0, which no position has.
     fn order_row(&self, position: usize) -> OrderRow
         ensures { result ≡ order_at self.now.order.now position }
     {
@@ -17,7 +17,7 @@ impl<R: Copy> Memory<'_, R> {
         self.order.get(position).copied().unwrap_or(past)
     }
 
-    // Whether the row of a position names a place of the map, whose row names that position.
+    /// Whether the row of a position names a place of the map, whose row names that position.
     fn points_back(&self, position: u16) -> bool
         ensures { IsTrue result ↔ PointsBack self.now.n self.now.order.now self.now.sketches.home.now position }
     {
@@ -25,7 +25,7 @@ impl<R: Copy> Memory<'_, R> {
         place < self.n && row_of(self.sketches.home, place).position == position
     }
 
-    // Whether the row of a place names a position of the order, whose row names that place.
+    /// Whether the row of a place names a position of the order, whose row names that place.
     fn pointed_to(&self, place: u16) -> bool
         ensures { IsTrue result ↔ PointedTo self.now.n self.now.order.now self.now.sketches.home.now place }
     {
@@ -33,7 +33,7 @@ impl<R: Copy> Memory<'_, R> {
         position < self.n && self.order_row(position as usize).place == place
     }
 
-    // Whether a position has a rank above 0, and the next one, if there is one, comes after it.
+    /// Whether a position has a rank above 0, and the next one, if there is one, comes after it.
     fn rank_rises(&self, position: u16) -> bool
         ensures { IsTrue result ↔ RanksRise self.now.n self.now.order.now position }
     {
@@ -42,20 +42,21 @@ impl<R: Copy> Memory<'_, R> {
         row.rank > 0 && (next >= self.n as usize || row < self.order_row(next))
     }
 
-    // Whether a number, read as a position and as a place, keeps the order.
+    /// Whether a number, read as a position and as a place, keeps the order.
     fn row_in_order(&self, i: u16) -> bool
         ensures { IsTrue result ↔ RowInOrder self.now.n self.now.order.now self.now.sketches.home.now i }
     {
         self.points_back(i) && self.pointed_to(i) && self.rank_rises(i)
     }
 
-    // Whether the tables of the order and of the places have a row for each of n places.
+    /// Whether the tables of the order and of the places have a row for each of n places.
     fn has_the_rows(&self) -> bool
         ensures { IsTrue result ↔ ((self.now.n ≤ length self.now.order.now) × (self.now.n ≤ length self.now.sketches.home.now)) }
     {
         self.order.len() >= self.n as usize && self.sketches.home.len() >= self.n as usize
     }
 
+    /// Whether both tables have their rows, and each number below n keeps the order.
     pub(crate) fn order_holds(&self) -> bool
         ensures { IsTrue result ↔ OrderTest self.now.n self.now.order.now self.now.sketches.home.now }
     {

@@ -5,7 +5,7 @@ ghost use Rattle.tables.specs.Walks.{plain_sketch, positions};
 
 use crate::memory::Memory;
 
-// Whether a position comes after the one before it, if there is one, and is below the number swept.
+/// Whether a position comes after the one before it, if there is one, and is below the number swept.
 fn comes_next(before: Option<u16>, position: u16, swept: u16) -> bool
     ensures { IsTrue result ↔ (IfSome before (λ p. p < position) × (position < swept)) }
 {
@@ -13,7 +13,7 @@ fn comes_next(before: Option<u16>, position: u16, swept: u16) -> bool
 }
 
 impl<R: Copy> Memory<'_, R> {
-    // Whether positions along the sketch of a place rise, and are below the number swept.
+    /// Whether positions along the sketch of a place rise, and are below the number swept.
     fn rises(&self, v: u16) -> bool
         ensures { let entries = plain_sketch self.now.sketches.home.now self.now.sketches.cells.now v in
             IsTrue result ↔ RisingBelow self.now.swept (positions entries) }
@@ -28,6 +28,7 @@ impl<R: Copy> Memory<'_, R> {
         true
     }
 
+    /// Whether the positions along the sketch of each place rise, and are below the number swept.
     pub(crate) fn positions_hold(&self) -> bool
         ensures { IsTrue result ↔ PositionsTest self.now.n self.now.swept self.now.sketches.home.now self.now.sketches.cells.now }
     {

@@ -7,7 +7,14 @@ use tables::rows::MISSING;
 /// Each of these changes alone has the memory fail this test first.
 fn check_each(rt: &impl Abort, memory: TestMemory, changes: &[Change], due: MemoryTest) {
     for change in changes {
-        assert_eq!(rt; memory.with(&[*change]).first_failing(), Some(due));
+        assert_eq!(rt; memory.with(&[*change]).first_failing(), Err(due));
+    }
+}
+
+/// Each of these lists of changes together has the town fail this test first.
+fn check_together<const N: usize>(rt: &impl Abort, lists: &[[Change; N]], due: MemoryTest) {
+    for changes in lists {
+        assert_eq!(rt; town().with(changes).first_failing(), Err(due));
     }
 }
 
@@ -44,25 +51,24 @@ fn order_damaged(rt: HostRuntime) {
         MemoryTest::Order,
     );
     // two places of one rank in the wrong order, pointing back at each other; and one row twice
-    for changes in [
-        [
-            Change::Place(0, 3),
-            Change::Place(1, 1),
-            Change::Position(3, 0),
-            Change::Position(1, 1),
+    check_together(
+        &rt,
+        &[
+            [
+                Change::Place(0, 3),
+                Change::Place(1, 1),
+                Change::Position(3, 0),
+                Change::Position(1, 1),
+            ],
+            [
+                Change::Place(1, 1),
+                Change::Rank(1, 1_000_000_000),
+                Change::Position(3, 0),
+                Change::Used(14),
+            ],
         ],
-        [
-            Change::Place(1, 1),
-            Change::Rank(1, 1_000_000_000),
-            Change::Position(3, 0),
-            Change::Used(14),
-        ],
-    ] {
-        assert_eq!(rt;
-            town().with(&changes).first_failing(),
-            Some(MemoryTest::Order)
-        );
-    }
+        MemoryTest::Order,
+    );
 }
 
 #[test]
@@ -123,24 +129,23 @@ fn links_damaged(rt: HostRuntime) {
         MemoryTest::Links,
     );
     // one cell shared by two sketches; a sketch of another's cells; a sketch that ends in a loop
-    for changes in [
-        [Change::After(5, 9), Change::Last(2, 9), Change::Owner(9, 2)],
-        [
-            Change::First(3, 5),
-            Change::Last(3, 8),
-            Change::Entries(3, 2),
+    check_together(
+        &rt,
+        &[
+            [Change::After(5, 9), Change::Last(2, 9), Change::Owner(9, 2)],
+            [
+                Change::First(3, 5),
+                Change::Last(3, 8),
+                Change::Entries(3, 2),
+            ],
+            [
+                Change::After(13, 2),
+                Change::Before(2, 13),
+                Change::Entries(4, 8),
+            ],
         ],
-        [
-            Change::After(13, 2),
-            Change::Before(2, 13),
-            Change::Entries(4, 8),
-        ],
-    ] {
-        assert_eq!(rt;
-            town().with(&changes).first_failing(),
-            Some(MemoryTest::Links)
-        );
-    }
+        MemoryTest::Links,
+    );
 }
 
 #[test]
@@ -206,8 +211,8 @@ fn places_damaged(rt: HostRuntime) {
 
 #[test]
 fn sound(rt: HostRuntime) {
-    assert_eq!(rt; town().first_failing(), None);
-    assert_eq!(rt; founded().first_failing(), None);
+    assert_eq!(rt; town().first_failing(), Ok(()));
+    assert_eq!(rt; founded().first_failing(), Ok(()));
     for change in [
         // exactly the rows that are needed, and no map
         Change::OrderRows(5),
@@ -229,15 +234,15 @@ fn sound(rt: HostRuntime) {
         // equal ranks go by place
         Change::Rank(4, 3_000_000_000),
     ] {
-        assert_eq!(rt; town().with(&[change]).first_failing(), None);
+        assert_eq!(rt; town().with(&[change]).first_failing(), Ok(()));
     }
     let mut alone = town();
     alone.map_places = None;
-    assert_eq!(rt; alone.first_failing(), None);
+    assert_eq!(rt; alone.first_failing(), Ok(()));
     // no cells at all are enough where none is used
     assert_eq!(rt;
         founded().with(&[Change::CellRows(0)]).first_failing(),
-        None
+        Ok(())
     );
 }
 
@@ -253,6 +258,6 @@ fn earlier_test_is_told(rt: HostRuntime) {
         (Change::Rank(0, 0), MemoryTest::Order),
     ] {
         memory = memory.with(&[change]);
-        assert_eq!(rt; memory.first_failing(), Some(due));
+        assert_eq!(rt; memory.first_failing(), Err(due));
     }
 }

@@ -21,8 +21,8 @@ fn chain(heap: Global, length: u32) -> Result<Vec<Cell<u32>>, AllocError> {
         .collect(heap)
 }
 
-/// The first test that a map of one place with such a sketch fails.
-fn first_failing(used: u32, row: HomeRow, cells: &[Cell<u32>]) -> Option<MemoryTest> {
+/// The first test that a map of one place with such a sketch fails, if any.
+fn first_failing(used: u32, row: HomeRow, cells: &[Cell<u32>]) -> Result<(), MemoryTest> {
     let memory = Memory {
         n: 1,
         swept: 65_535,
@@ -33,7 +33,7 @@ fn first_failing(used: u32, row: HomeRow, cells: &[Cell<u32>]) -> Option<MemoryT
             cells,
         },
     };
-    memory.examine(Some(1)).err()
+    memory.examine(Some(1))
 }
 
 /// The row of a place with so many entries, from the first cell to this one.
@@ -49,14 +49,14 @@ fn row(last: u32, entries: u32) -> HomeRow {
 #[test]
 fn longest_sketch(rt: HostRuntime) -> Result<(), Fail> {
     let cells = chain(rt.alloc(), 65_535)?;
-    assert_eq!(rt; first_failing(65_535, row(65_534, 65_535), &cells), None);
+    assert_eq!(rt; first_failing(65_535, row(65_534, 65_535), &cells), Ok(()));
     assert_eq!(rt;
         first_failing(65_534, row(65_534, 65_535), &cells),
-        Some(MemoryTest::Counts)
+        Err(MemoryTest::Counts)
     );
     assert_eq!(rt;
         first_failing(65_536, row(65_534, 65_535), &cells),
-        Some(MemoryTest::Links)
+        Err(MemoryTest::Links)
     );
     Ok(())
 }
@@ -67,7 +67,7 @@ fn no_position_is_left(rt: HostRuntime) -> Result<(), Fail> {
     let cells = chain(rt.alloc(), 65_536)?;
     assert_eq!(rt;
         first_failing(65_536, row(65_535, 65_536), &cells),
-        Some(MemoryTest::Positions)
+        Err(MemoryTest::Positions)
     );
     Ok(())
 }
@@ -78,7 +78,7 @@ fn cells_past_the_last(rt: HostRuntime) -> Result<(), Fail> {
     let mut cells = chain(heap, 2)?;
     fill_up(&mut cells)?;
     assert_eq!(rt; cells.len(), 65_536);
-    assert_eq!(rt; first_failing(2, row(1, 2), &cells), None);
+    assert_eq!(rt; first_failing(2, row(1, 2), &cells), Ok(()));
     // a cell of number 65,536 that names the place is not counted, and none is free there
     cells.push(Cell {
         owner: 0,
@@ -95,10 +95,10 @@ fn cells_past_the_last(rt: HostRuntime) -> Result<(), Fail> {
         after: MISSING,
     })?;
     assert_eq!(rt; cells_there(&cells), 65_536);
-    assert_eq!(rt; first_failing(2, row(1, 2), &cells), None);
+    assert_eq!(rt; first_failing(2, row(1, 2), &cells), Ok(()));
     assert_eq!(rt;
         first_failing(65_537, row(1, 2), &cells),
-        Some(MemoryTest::Links)
+        Err(MemoryTest::Links)
     );
     assert_eq!(rt; free_cell(1, &cells, 0), Some(2));
     assert_eq!(rt; free_cell(1, &cells, 65_535), Some(65_535));

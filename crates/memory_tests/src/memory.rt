@@ -189,8 +189,8 @@ impl TestMemory {
         }
     }
 
-    /// The first test that fails, if any. An option, for the tests ask which one it is, and none is no failure of theirs.
-    pub(crate) fn first_failing(&self) -> Option<MemoryTest> {
+    /// The first test that fails, if any.
+    pub(crate) fn first_failing(&self) -> Result<(), MemoryTest> {
         let memory = Memory {
             n: self.n,
             swept: self.swept,
@@ -198,6 +198,6 @@ impl TestMemory {
             order: &self.order[..self.order_rows.min(6)],
             sketches: self.sketches(),
         };
-        memory.examine(self.map_places).err()
+        memory.examine(self.map_places)
     }
 }

@@ -39,7 +39,7 @@ fn removed_and_appended(rt: HostRuntime) {
     remove_last(5, &mut memory.home, &mut memory.cells, 4);
     memory.used = 13;
     memory.swept = 4;
-    assert_eq!(rt; memory.first_failing(), None);
+    assert_eq!(rt; memory.first_failing(), Ok(()));
     assert_eq!(rt; memory.cells[13].owner, 5);
     check_sketch(&rt, &memory, 4, &[(0, 110), (1, 310), (3, 10)]);
     assert_eq!(rt; free_cell(5, &memory.cells, 0), Some(13));
@@ -55,7 +55,7 @@ fn removed_and_appended(rt: HostRuntime) {
     );
     memory.used = 14;
     memory.swept = 5;
-    assert_eq!(rt; memory.first_failing(), None);
+    assert_eq!(rt; memory.first_failing(), Ok(()));
     check_sketch(&rt, &memory, 0, &[(0, 100), (1, 300), (3, 0), (4, 7)]);
     check_sketch(&rt, &memory, 4, &[(0, 110), (1, 310), (3, 10)]);
 }
@@ -66,12 +66,12 @@ fn emptied_and_filled(rt: HostRuntime) {
     remove_last(5, &mut memory.home, &mut memory.cells, 2);
     remove_last(5, &mut memory.home, &mut memory.cells, 2);
     memory.used = 12;
-    assert_eq!(rt; memory.first_failing(), None);
+    assert_eq!(rt; memory.first_failing(), Ok(()));
     check_sketch(&rt, &memory, 2, &[]);
     assert!(rt; memory.sketches().last_entry(2).is_none());
     // nothing to remove: nothing changes
     remove_last(5, &mut memory.home, &mut memory.cells, 2);
-    assert_eq!(rt; memory.first_failing(), None);
+    assert_eq!(rt; memory.first_failing(), Ok(()));
     append(
         &mut memory.home,
         &mut memory.cells,
@@ -83,6 +83,6 @@ fn emptied_and_filled(rt: HostRuntime) {
         },
     );
     memory.used = 13;
-    assert_eq!(rt; memory.first_failing(), None);
+    assert_eq!(rt; memory.first_failing(), Ok(()));
     check_sketch(&rt, &memory, 2, &[(0, 9)]);
 }

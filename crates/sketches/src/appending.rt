@@ -8,7 +8,7 @@ ghost use Rattle.sketches.specs.Links.{new_cell};
 use crate::cells::{put_cell, put_row, row_of, set_after};
 use tables::rows::{Cell, Entry, HomeRow, MISSING};
 
-// The row of a sketch with one entry more, in the cell `free`.
+/// The row of a sketch with one entry more, in the cell `free`.
 fn longer(row: HomeRow, free: u32) -> HomeRow
     ensures position { result.position ≡ row.position }
     ensures first { result.first ≡ (if row.entries == 0 then free else row.first) }
@@ -23,7 +23,7 @@ fn longer(row: HomeRow, free: u32) -> HomeRow
     }
 }
 
-// Writes an entry of v in the cell `free`, linked behind the last cell of the sketch whose row is given.
+/// Writes an entry of v in the cell `free`, linked behind the last cell of the sketch whose row is given.
 fn link_cell<R: Copy>(cells: &mut [Cell<R>], row: HomeRow, v: u16, free: u32, entry: Entry<R>)
     ensures first { row.entries ≡ 0 → free < missing →
         cells.new ≡ slice_set cells.old free (new_cell v row.last entry) }

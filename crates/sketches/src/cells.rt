@@ -1,4 +1,6 @@
 //! One row or one cell read or written, with every index tested.
+//!
+//! Each function that writes cells says that nothing past the last cell changes: that is what it leaves, which no type can say.
 ghost use Rattle.std.specs.Prelude.{◌≡◌, ℕ, ◌<◌, ◌≤◌, drop, Some, slice_set};
 ghost use Rattle.tables.specs.Changes.{with_after};
 ghost use Rattle.tables.specs.Rows.{missing, home_at, cell_at, cells_there};
@@ -18,6 +20,7 @@ pub fn row_of(home: &[HomeRow], v: u16) -> HomeRow
 pub(crate) fn put_row(home: &mut [HomeRow], v: u16, row: HomeRow)
     ensures { home.new ≡ slice_set home.old v row }
 {
+    // A tested index, not `get_mut`: after a write through a slice's `get_mut` a proof knows the slice's length and no element.
     let v = v as usize;
     if v < home.len() {
         home[v] = row;
@@ -35,11 +38,10 @@ pub fn cells_there<R>(cells: &[Cell<R>]) -> u32
 pub fn cell_at<R: Copy>(cells: &[Cell<R>], at: u32) -> Option<Cell<R>>
     ensures { result ≡ cell_at cells.now at }
 {
-    if at < MISSING {
-        cells.get(at as usize).copied()
-    } else {
-        None
+    if at >= MISSING {
+        return None;
     }
+    cells.get(at as usize).copied()
 }
 
 /// Writes the cell of this number; where there is none, nothing.
@@ -48,6 +50,7 @@ pub(crate) fn put_cell<R: Copy>(cells: &mut [Cell<R>], at: u32, cell: Cell<R>)
     ensures none { missing ≤ at → cells.new ≡ cells.old }
     ensures surplus { drop missing cells.new ≡ drop missing cells.old }
 {
+    // A tested index, for the reason given in `put_row`.
     let here = at as usize;
     if at < MISSING && here < cells.len() {
         cells[here] = cell;

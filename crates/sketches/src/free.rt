@@ -6,7 +6,7 @@ ghost use Rattle.tables.specs.Rows.{cell_at};
 use crate::cells::{cell_at, cells_there};
 use tables::rows::Cell;
 
-// Whether there is a cell of this number, and its owner is not below n.
+/// Whether there is a cell of this number, and its owner is not below n.
 fn is_free<R: Copy>(n: u16, cells: &[Cell<R>], at: u32) -> bool
     ensures { MatchOption (cell_at cells.now at) (result ≡ false) (λ c. result ≡ nat_le n c.owner) }
 {

@@ -11,7 +11,7 @@ use crate::view::Sketches;
 use tables::rows::{Cell, Entry, HomeRow, MISSING};
 
 impl<R: Copy> Sketches<'_, '_, R> {
-    // The last cell of the sketch of a place, if it has any.
+    /// The last cell of the sketch of a place, if it has any.
     fn last_cell(&self, v: u16) -> Option<Cell<R>>
         ensures none { (home_at self.now.home.now v).entries ≡ 0 → result ≡ None }
         ensures some { 0 < (home_at self.now.home.now v).entries →
@@ -34,7 +34,7 @@ impl<R: Copy> Sketches<'_, '_, R> {
     }
 }
 
-// The row of a sketch without its last entry, before which the cell `before` stands.
+/// The row of a sketch without its last entry, before which the cell `before` stands.
 fn shorter(row: HomeRow, before: u32) -> HomeRow
     ensures position { result.position ≡ row.position }
     ensures first { result.first ≡ (if row.entries - 1 == 0 then missing else row.first) }
@@ -50,8 +50,8 @@ fn shorter(row: HomeRow, before: u32) -> HomeRow
     }
 }
 
-// Frees the cell of number `gone`: it names n as its owner. The last cell of the sketch that is left, whose row is given,
-// names none after it.
+/// Frees the cell of number `gone`: it names n as its owner. The last cell of the sketch that is left, whose row is given,
+/// names none after it.
 fn unlink_cell<R: Copy>(cells: &mut [Cell<R>], left: HomeRow, n: u16, gone: u32, cell: Cell<R>)
     ensures only { left.entries ≡ 0 → gone < missing →
         cells.new ≡ slice_set cells.old gone (with_owner cell n) }

@@ -39,7 +39,8 @@ impl HomeRow {
 }
 
 /// One entry of the sketch of the noting place `owner`; or a free cell, whose owner is no place.
-// Cells name each other by number, not by Box: they lie in a table that the caller lends, in that fixed format.
+// Cells name each other by number, not by Box: they lie in a table that the caller lends, whose fixed format
+// is of plain numbers.
 #[derive(Clone, Copy, PartialEq, Eq, Debug)]
 pub struct Cell<R> {
     pub owner: u16,
