@@ -1,9 +1,9 @@
 -- The steps of filling a table of least lengths.
-use Rattle.std.proofs.Common.{◌≡◌, ℕ, zero, suc, ◌+◌, ◌*◌, ◌/◌, ◌%◌, ◌<◌, ◌≤◌, Bool, true, false, cond, eqb, List, [], ◌∷◌, length, get_or, take, set, Some, None, Option, sym, refl, ap, ◌∙◌, subst, subst₂, ⊎_elim, add-one, arith}
+use Rattle.std.proofs.Common.{◌≡◌, ℕ, zero, suc, ◌+◌, ◌*◌, ◌/◌, ◌%◌, ◌<◌, ◌≤◌, Bool, true, false, cond, eqb, List, [], ◌∷◌, length, get_or, take, set, ◌++◌, Some, None, Option, sym, refl, ap, ◌∙◌, subst, subst₂, ⊎_elim, add-one, arith}
 use Rattle.std.specs.Option.{option_map}
 use Rattle.std.specs.List.{slice_get, fold, range_with_len}
-use Rattle.std.proofs.lemmas.Nat.{mul-add-lt, div-mul-add, mod-mul-add, div-add-mod', div_below}
-use Rattle.std.proofs.lemmas.List.{get_or-set_same, get_or-set_other, take_all}
+use Rattle.std.proofs.lemmas.Nat.{mul-add-lt, div-mul-add, mod-mul-add, div_below}
+use Rattle.std.proofs.lemmas.List.{get_or-set_same, get_or-set_other, get_or_append_left, take_all}
 use Rattle.std.proofs.lemmas.Bool.{cases_eq}
 use Rattle.measure.specs.Laws.{OrderedMonoid, RowEncoding}
 use Rattle.graph.specs.Graphs.{Graph}
@@ -83,25 +83,26 @@ module _ {L R : Type 0} (m : OrderedMonoid L) (e : RowEncoding L R) (g : Graph L
 
   -- one row more is filled with the ways of one arc at most
   abbrev FillStep : ℕ → Type 0
-  FillStep n = (table : List (Option R)) (k : ℕ) (o : Option L) → k < n * n → n * n ≤ length table →
+  FillStep n = (table : List (Option R)) (k : ℕ) (o : Option L) → k < n * n → k < length table →
       (k / n < g.places → Right m g (Direct (g.arriving (k % n))) (k / n) (k % n) o) →
-      RightBelow m e g [] table k → RightBelow m e g [] (set table (k / n * n + k % n) (option_map e.writes o)) (k + 1)
+      RightBelow m e g [] table k → RightBelow m e g [] (set table k (option_map e.writes o)) (k + 1)
 
   fill_at_places : FillStep g.places
-  fill_at_places table k o here whole right before =
-      let at-k = div-add-mod' k g.places in
-      subst (λ i. RightBelow m e g [] (set table i (option_map e.writes o)) (k + 1)) (sym at-k)
-      (right_set [] table k (k + 1) o (omega arith)
+  fill_at_places table k o here inside-table right before =
+      right_set [] table k (k + 1) o inside-table
       (right_direct m g (k / g.places) (k % g.places) o (right (div_below k g.places g.places g.some here)))
-      (λ j h apart. before j (omega arith)))
+      (λ j h apart. before j (omega arith))
 
-  pub fill_step : (n : ℕ) → n ≡ g.places → (start table after : List (Option R)) (k : ℕ) (o : Option L) → after ≡ set table (k / n * n + k % n) (option_map e.writes o) →
-      k < n * n → n * n ≤ length table → (k / n < g.places → Right m g (Direct (g.arriving (k % n))) (k / n) (k % n) o) →
-      RightBelow m e g [] table k × SameFrom k start table → RightBelow m e g [] after (k + 1) × SameFrom (k + 1) start after
-  fill_step n places start table after k o is here whole right before = (
-    subst (λ t. RightBelow m e g [] t (k + 1)) (sym is) (subst FillStep (sym places) fill_at_places table k o here whole right before.0),
-    same_set k (k + 1) (k / n * n + k % n) start table after after (option_map e.writes o) is refl (omega arith) (omega (arith, div-add-mod' k n)) before.1,
-  )
+  pub fill_step : (n : ℕ) → n ≡ g.places → (table : List (Option R)) (k : ℕ) (o : Option L) (row : Option R) → row ≡ option_map e.writes o →
+      k < n * n → k < length table → (k / n < g.places → Right m g (Direct (g.arriving (k % n))) (k / n) (k % n) o) →
+      RightBelow m e g [] table k → RightBelow m e g [] (set table k row) (k + 1)
+  fill_step n places table k o row is here inside-table right before =
+      subst (λ r. RightBelow m e g [] (set table k r) (k + 1)) (sym is) (subst FillStep (sym places) fill_at_places table k o here inside-table right before)
+
+  -- the rows of a longer table are right where those of its front are
+  pub right_front : (n : ℕ) (front rest : List (Option R)) → n ≤ length front → RightBelow m e g [] front n → RightBelow m e g [] (front ++ rest) n
+  right_front n front rest long before k h =
+      let r = before k h in (r.0, get_or_append_left front rest None k (omega arith) ∙ r.1, r.2)
 
   module _ (xs : List ℕ) (table : List (Option R)) (all : RightBelow m e g xs table (g.places * g.places)) where
     -- the length that a row holds, with the places that it stands for
@@ -155,11 +156,11 @@ module _ {L R : Type 0} (m : OrderedMonoid L) (e : RowEncoding L R) (g : Graph L
       )
 
   -- one length more of the row, where there is a way by way of x: what the code reads, joins, compares and writes
-  pub put_step : (n : ℕ) → g.places ≡ n → (xs : List ℕ) (x v w : ℕ) (table written after : List (Option R)) (first second joined old least : Option L) (length-by : L) →
+  pub put_step : (n : ℕ) → g.places ≡ n → (xs : List ℕ) (x v w : ℕ) (table written after : List (Option R)) (first second joined old : Option L) (least length-by : L) →
       x < n → v < n → w < n → n * n ≤ length table →
       first ≡ option_map e.reads (get_or table (v * n + x) None) → second ≡ option_map e.reads (get_or table (x * n + w) None) →
       joined ≡ in_turn m first second → joined ≡ Some length-by → old ≡ option_map e.reads (get_or table (v * n + w) None) →
-      least ≡ shorter m old (Some length-by) → written ≡ set table (v * n + w) (option_map e.writes least) → after ≡ written →
+      Some least ≡ shorter m old (Some length-by) → written ≡ set table (v * n + w) (Some (e.writes least)) → after ≡ written →
       Done xs x n v w table → Done xs x n v (w + 1) after
   put_step n places xs x v w table written after first second joined old least length-by hx hv hw whole e1 e2 e3 e4 e5 e6 e7 e8 done =
       subst (Done xs x n v (w + 1)) (sym (e8 ∙ e7 ∙ (λ i. set table (v * n + w) (option_map e.writes ((e6 ∙ ap (λ o. shorter m o (Some length-by)) e5) i)))))

@@ -1,6 +1,6 @@
 //! The ways that also lead by way of one place more.
 //!
-//! The loops run over the numbers of places: a table is asked by number, and holds rows of three places at once in one step.
+//! The loops run over the numbers of places: a table is asked by number, and one step reads the lengths of three pairs.
 ghost use Rattle.std.specs.Prelude.{◌≡◌, ◌*◌, ◌<◌};
 ghost use Rattle.all_pairs.specs.Tables.{SameFrom, Shortened, ShortenedFrom};
 

@@ -15,7 +15,7 @@ fn shortest<M: Map>(map: &M, v: usize, w: usize) -> Option<M::Length>
     let empty_way = (v == w).then_some(M::Length::zero());
     // A fold over the arcs' numbers: one over the arcs, by `filter_map`, gets no proof yet where lengths are of any measure.
     (0..map.arrivals(w)).fold(empty_way, |least, i| match map.arrival(w, i) {
-        Some(arc) if usize::from(arc.from) == v => shorter(least, arc.length),
+        Some(arc) if usize::from(arc.from) == v => Some(shorter(least, arc.length)),
         _ => least,
     })
 }
@@ -29,8 +29,7 @@ pub(crate) fn fill<M: Map>(map: &M, table: &mut Table<M::Length>)
     ensures rest { SameFrom (table.old.places * table.old.places) table.old.rows.now table.new.rows.now }
 {
     let places = table.places;
-    for k in 0..places * places {
-        let (v, w) = (k / places, k % places);
-        table.put(v, w, shortest(map, v, w));
+    for (k, row) in table.rows[..places * places].iter_mut().enumerate() {
+        *row = shortest(map, k / places, k % places).map(|length| length.write());
     }
 }

@@ -5,12 +5,12 @@ ghost use Rattle.graph.specs.LeastLengths.{shorter as shorter_of, in_turn};
 use measure::Measure;
 
 /// The shorter of a length that may be missing and another.
-pub(crate) fn shorter<L: Measure>(old: Option<L>, new: L) -> Option<L>
-    ensures { result ≡ shorter_of L.Measure.laws old (Some new) }
+pub(crate) fn shorter<L: Measure>(old: Option<L>, new: L) -> L
+    ensures { Some result ≡ shorter_of L.Measure.laws old (Some new) }
 {
     match old {
-        Some(known) if known.at_most(new) => Some(known),
-        _ => Some(new),
+        Some(known) if known.at_most(new) => known,
+        _ => new,
     }
 }
 

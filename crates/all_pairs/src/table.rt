@@ -6,7 +6,7 @@ use measure::Measure;
 mod rows;
 
 /// A table of rows: that of places `v` and `w` stands at `v * places + w`.
-// What changes it says each time that it holds the same rows and as many places: only from there does a caller know it of a struct that holds a `&mut`.
+// What changes the table says that it still holds the same rows and as many places: of a struct that holds a `&mut`, a caller knows that from nowhere else.
 #[derive(Drop)]
 pub(crate) struct Table<'a, L: Measure> {
     pub(crate) rows: &'a mut [Option<L::Row>],

@@ -14,7 +14,7 @@ fn arc(grid: &Grid, place: usize, i: usize) -> Option<(u16, u32)> {
 
 /// So many arcs arrive at each of these places, and no more.
 fn check_counts(rt: &impl Abort, grid: &Grid, due: &[(usize, usize)]) -> Result<(), Fail> {
-    for (place, count) in due.iter().copied() {
+    for &(place, count) in due {
         assert_eq!(rt; grid.arrivals(place), count);
         assert_eq!(rt; arc(grid, place, count), None);
     }
@@ -23,7 +23,7 @@ fn check_counts(rt: &impl Abort, grid: &Grid, due: &[(usize, usize)]) -> Result<
 
 /// At a place, the arc of this number comes from there and takes so many seconds.
 fn check_arcs(rt: &impl Abort, grid: &Grid, due: &[(usize, usize, u16, u32)]) -> Result<(), Fail> {
-    for (place, i, from, seconds) in due.iter().copied() {
+    for &(place, i, from, seconds) in due {
         assert_eq!(rt; arc(grid, place, i), Some((from, seconds)));
     }
     Ok(())

@@ -15,6 +15,7 @@ impl<L: Measure> Map for SmallTown<'_, L> {
         self.places
     }
 
+    // Both functions filter the arcs: an iterator with a closure in it has no type that a function could name as its result.
     fn arrivals(&self, place: usize) -> usize {
         self.arcs
             .iter()

@@ -1,5 +1,4 @@
-use Rattle.std.proofs.Common.{◌≡◌, ◌+◌, ◌*◌, ◌≤◌, length, refl, ap, ◌∙◌, arith}
-use Rattle.std.specs.Option.{option_map}
+use Rattle.std.proofs.Common.{◌≡◌, ◌+◌, ◌*◌, ◌≤◌, length, Some, refl, ap, ◌∙◌, arith}
 use Rattle.all_pairs.proofs.Steps.{inside, put_step, pass_step, same_set, same_pass}
 use Rattle.all_pairs.proofs.table.Table.shorten_from.Goals as goal
 use Rattle.all_pairs.proofs.table.Table.shorten_from.Goals.{in-Some, in_default}
@@ -41,7 +40,7 @@ loop-w-preserved g c =
                 c.requires.x_inside c.requires.v_inside (omega arith) whole
                 first second c.joined.ensures w.in-Some.is old w.shorter-least.ensures written after_is
                 (so_far.right map xs places all rows);
-            rest = same_set (n * n) (n * n) (v * n + to) start table w.put.new.self.rows.now after (option_map e.writes w.shorter-least.result)
+            rest = same_set (n * n) (n * n) (v * n + to) start table w.put.new.self.rows.now after (Some (e.writes w.shorter-least.result))
                 written after_is (omega arith) (inside n v to c.requires.v_inside (omega arith)) so_far.rest;
           }
       | in_default w ↦
