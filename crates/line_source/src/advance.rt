@@ -31,6 +31,7 @@ impl LineSource {
         ensures { OnOk result (self.new.number ≡ self.old.number + 1) }
     {
         self.begin()?;
+        // It counts nothing: each loop is proved to end, and this one ends after as many parts at the latest.
         for _ in 0..u64::MAX {
             let part = reader.fill_buf()?;
             if part.is_empty() {

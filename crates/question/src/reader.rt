@@ -46,7 +46,7 @@ impl<'a> WordReader<'a> {
         Ok(number)
     }
 
-    /// Nothing may follow the last word.
+    /// Tells that nothing follows, or refuses the line at the byte that does.
     pub(crate) fn end(&self) -> Result<(), LineFault>
         ensures { MatchResult result (λ _. length (line_of self.now) ≤ place_of self.now) (PastEnd (line_of self.now) (place_of self.now)) }
     {

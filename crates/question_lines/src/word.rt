@@ -34,7 +34,7 @@ pub fn word(line: &[u8], at: usize) -> Result<(u32, usize), LineFault>
     }
 }
 
-/// Nothing may follow the last word.
+/// Tells that nothing follows, or refuses the line at the byte that does.
 pub fn end(line: &[u8], at: usize) -> Result<(), LineFault>
     ensures { MatchResult result (λ _. length line.now ≤ at) (PastEnd line.now at) }
 {

@@ -6,7 +6,15 @@ use question::form::Question;
 use question::form::read::read;
 use question::places::Places;
 use question::told::ToldRefusal;
+use std::process::Abort;
 use std::test::Fail;
+
+/// Each of these lines is refused with so many bytes that it shares with an allowed line.
+fn check_refused(rt: &impl Abort, table: &[(&[u8], usize)]) {
+    for &(line, shared) in table {
+        assert_eq!(rt; read(line), Err(LineFault::NoForm(shared)));
+    }
+}
 
 #[test]
 fn one_number_refused(rt: HostRuntime) {
@@ -39,9 +47,7 @@ fn one_number_refused(rt: HostRuntime) {
         (b"N 9999999999", 11),
         (b"B 1 1", 3),
     ];
-    for (line, shared) in table {
-        assert_eq!(rt; read(line), Err(LineFault::NoForm(shared)));
-    }
+    check_refused(&rt, &table);
 }
 
 #[test]
@@ -98,9 +104,7 @@ fn more_numbers_refused(rt: HostRuntime) {
             80,
         ),
     ];
-    for (line, shared) in table {
-        assert_eq!(rt; read(line), Err(LineFault::NoForm(shared)));
-    }
+    check_refused(&rt, &table);
 }
 
 #[test]
@@ -133,9 +137,7 @@ fn joint(line: &[u8]) -> Option<(u32, Places)> {
 
 #[test]
 fn places_of_a_line(rt: HostRuntime) -> Result<(), Fail> {
-    let Some((limit, places)) = joint(b"U 50 2 3") else {
-        return Err(Fail::new("refused"));
-    };
+    let (limit, places) = joint(b"U 50 2 3").ok_or("refused")?;
     assert_eq!(rt; limit, 50);
     assert_eq!(rt; places.as_slice(), [2, 3].as_slice());
     Ok(())
@@ -144,9 +146,7 @@ fn places_of_a_line(rt: HostRuntime) -> Result<(), Fail> {
 #[test]
 fn most_places(rt: HostRuntime) -> Result<(), Fail> {
     let line = b"U 10 0 0 0 0 0 0 0 0 0 0 0 0 0 0 0 0 0 0 0 0 0 0 0 0 0 0 0 0 0 0 0 0 0 0 0 0 0 0";
-    let Some((limit, places)) = joint(line) else {
-        return Err(Fail::new("refused"));
-    };
+    let (limit, places) = joint(line).ok_or("refused")?;
     assert_eq!(rt; limit, 10);
     assert_eq!(rt; places.as_slice().len(), 38);
     Ok(())
@@ -156,9 +156,7 @@ fn most_places(rt: HostRuntime) -> Result<(), Fail> {
 fn written_back(rt: HostRuntime) -> Result<(), Fail> {
     let table: [&str; 4] = ["K 64", "S 0 4294967295", "U 0 0", "U 300 1 20 4095"];
     for line in table {
-        let Ok(question) = read(line.as_bytes()) else {
-            return Err(Fail::new("refused"));
-        };
+        let question = read(line.as_bytes())?;
         assert_eq!(rt; question.to_string(rt.alloc())?.as_str(), line);
     }
     Ok(())

@@ -23,6 +23,7 @@ fn file(heap: Global, places: u32, arcs: u32) -> Result<Vec<u8>, Fail> {
 }
 
 /// The fault of such a file in such room.
+// Not the function of files.rt: that one asserts that the room given back is as large as was asked, and here more is asked than a file may have.
 fn fault_of(heap: Global, places: u32, arcs: u32, room: Limits) -> Result<Option<FileFault>, Fail> {
     let bytes = file(heap, places, arcs)?;
     let room = Room::<Seconds>::reserve(heap, room.places, room.arcs)?;

@@ -68,7 +68,7 @@ fn arcs_arrive_in_order(rt: HostRuntime) -> Result<(), Fail> {
         (3, 0, 1, 200),
         (3, 1, 2, 50),
     ] {
-        let arc = rows.arrival(place, i).ok_or_else(|| Fail::new("no arc"))?;
+        let arc = rows.arrival(place, i).ok_or("no arc")?;
         assert_eq!(rt; (arc.from, arc.length.count()), (from, seconds));
     }
     Ok(())

@@ -39,7 +39,7 @@ fn limit_and_places(mut words: WordReader) -> Result<(u32, Places), LineFault>
 
 /// The question that a line asks, the line given without its newline.
 ///
-/// A line that is not allowed is refused with the most leading bytes that it shares with an allowed line, or with 80 if it is longer than that.
+/// A line that is not allowed is refused with the most leading bytes that it shares with an allowed line, or with 80 if it has more than 80 bytes.
 #[tactic(auto, using(crate::proofs::Letters::refused_one, crate::proofs::Letters::refused_two, crate::proofs::Letters::refused_more))]
 pub fn read(line: &[u8]) -> Result<Question, LineFault>
     ensures { MatchResult result (Reads line.now) (Refused line.now) }
