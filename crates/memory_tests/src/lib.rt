@@ -1,4 +1,4 @@
-//! Tests of the memory of an atlas: damaged tables with the test that each fails, sound ones, and work on sketches.
+//! Tests of the memory of an atlas: damaged tables with the test that each fails, sound ones, work on sketches, and samples.
 #![tactic(auto)]
 
 #[cfg(test)]
@@ -7,5 +7,7 @@ mod damaged;
 mod long_tables;
 #[cfg(test)]
 mod memory;
+#[cfg(test)]
+mod sampled;
 #[cfg(test)]
 mod worked;

@@ -189,15 +189,19 @@ impl TestMemory {
         }
     }
 
-    /// The first test that fails, if any.
-    pub(crate) fn first_failing(&self) -> Result<(), MemoryTest> {
-        let memory = Memory {
+    /// The memory, as far as rows are lent.
+    pub(crate) fn memory(&self) -> Memory<'_, u32> {
+        Memory {
             n: self.n,
             swept: self.swept,
             used: self.used,
             order: &self.order[..self.order_rows.min(6)],
             sketches: self.sketches(),
-        };
-        memory.examine(self.map_places)
+        }
+    }
+
+    /// The first test that fails, if any.
+    pub(crate) fn first_failing(&self) -> Result<(), MemoryTest> {
+        self.memory().examine(self.map_places)
     }
 }

@@ -3,7 +3,6 @@ use Rattle.std.proofs.Common.{◌≡◌, ℕ, zero, suc, ◌+◌, ◌-◌, ◌<�
 use Rattle.std.proofs.Math.Seq.{get_or-append_seam, set-append_seam}
 use Rattle.std.proofs.lemmas.List.{append-nil, append_assoc, drop_more, length-append, length-map, map-append}
 use Rattle.measure.specs.Laws.{OrderedMonoid, RowEncoding}
-use Rattle.bottom_k.specs.declared.figure.Figure.{Figure}
 use Rattle.bottom_k.specs.Figures.{figure_of, figure_of_ranks}
 use Rattle.bottom_k.specs.Sketches.{entries_within}
 use Rattle.tables.specs.declared.rows.Entry.{Entry}
@@ -11,6 +10,7 @@ use Rattle.tables.specs.declared.rows.OrderRow.{OrderRow}
 use Rattle.tables.specs.Rows.{order_at}
 use Rattle.tables.specs.Walks.{read_entry}
 use Rattle.examine.specs.declared.memory.Memory.{Memory}
+use Rattle.sample.specs.declared.told.Sample.{Sample}
 use Rattle.sample.specs.Samples.{sampled_rows, Sampled}
 
 -- where numbers stand at the front of a list and the rest is as it was, one more is written behind them
@@ -116,13 +116,12 @@ module _ {L R : Type 0} (laws : OrderedMonoid L) (rows : RowEncoding L R) (order
 pub sampled_if_all : {L R : Type 0} (laws : OrderedMonoid L) (rows : RowEncoding L R) (m : Memory R) (k start : ℕ) (limit : L)
     (left : List (Entry R)) (count last : ℕ) (before after : List ℕ)
     (f : Filled laws rows m.order.now limit k (sampled_rows laws rows m k start limit) left count last before after)
-    → sampled_rows laws rows m k start limit ≡ f.so_far → (figure : Figure) → figure ≡ figure_of k count last
-    → Sampled laws rows m k start limit before after (record { count = count; figure = figure })
-sampled_if_all laws rows m k start limit left count last before after f full figure is =
+    → sampled_rows laws rows m k start limit ≡ f.so_far → (s : Sample) → s.count ≡ count → s.figure ≡ figure_of k count last → Sampled laws rows m k start limit before after s
+sampled_if_all laws rows m k start limit left count last before after f full s so_many is =
     let ranks : List ℕ = map (λ row. row.rank) f.so_far in
     let long : count ≡ length ranks = f.counted ∙ sym (length-map f.so_far (λ row. row.rank)) in
     record {
-      count = f.counted ∙ ap length (sym full);
+      count = so_many ∙ f.counted ∙ ap length (sym full);
       figure =
           is
           ∙ ap (λ n. figure_of k n last) long

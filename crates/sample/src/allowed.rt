@@ -18,8 +18,8 @@ fn place_of(n: u16, start: u32) -> Result<u16, AtlasFault>
         .ok_or(AtlasFault::NoSuchPlace(start))
 }
 
-/// Whether a buffer of this length has room for k places.
-fn has_room(k: u32, room: usize) -> Result<(), AtlasFault>
+/// Refuses a buffer that has no room for k places.
+fn check_room(k: u32, room: usize) -> Result<(), AtlasFault>
     ensures { MatchResult result (λ _. k ≤ room) (λ f. (f ≡ TooShort k) × (room < k)) }
 {
     let needed = k as usize;
@@ -42,6 +42,6 @@ pub(crate) fn allowed_start<R: Copy>(
 {
     memory.examine(None).map_err(AtlasFault::TestFailed)?;
     let place = place_of(memory.n, start)?;
-    has_room(k, room)?;
+    check_room(k, room)?;
     Ok(place)
 }

@@ -4,7 +4,6 @@ ghost use Rattle.tables.specs.Rows.{order_at};
 ghost use Rattle.sample.specs.Samples.{Sampled};
 
 use crate::told::Sample;
-use bottom_k::estimate::figure;
 use examine::memory::Memory;
 use measure::Measure;
 use tables::rows::{Entry, OrderRow};
@@ -50,8 +49,5 @@ pub(crate) fn fill<M: Measure>(
             count += 1;
         }
     }
-    Sample {
-        count,
-        figure: figure(k, count, last_rank),
-    }
+    Sample::new(k, count, last_rank)
 }

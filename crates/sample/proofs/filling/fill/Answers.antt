@@ -26,4 +26,4 @@ returns g c =
       | in-None w ↦ all_if_none_left m rows order c.args.limit c.loop-entry.invariant w.in-None.ensures.steps.0
       | in-Some+then-count-needed w ↦ all_if_enough m rows order c.args.limit c.loop-entry.invariant w.if-count-needed.true
     ])
-    c.figure.result c.figure.ensures
+    c.new.result c.new.ensures.count c.new.ensures.figure
