@@ -24,6 +24,7 @@ fn is_within<M: Measure>(entry: Entry<M::Row>, limit: M) -> bool
 }
 
 /// Writes the places that the start notes within the limit to the front of the buffer, k at most, and tells what they stand for.
+#[tactic(auto, using(crate::proofs::SoFar::filled_more))]
 pub(crate) fn fill<M: Measure>(
     memory: &Memory<'_, M::Row>,
     k: u32,

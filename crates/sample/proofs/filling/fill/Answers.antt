@@ -1,7 +1,7 @@
-use Rattle.std.proofs.Common.{sym, ap, ◌∙◌}
+use Rattle.std.proofs.Common.{ap, ◌∙◌}
 use Rattle.tables.specs.Walks.{plain_sketch}
 use Rattle.sketches.specs.Reader.{entries_left}
-use Rattle.sample.proofs.SoFar.{filled_starts, filled_more, all_if_none_left, all_if_enough, sampled_if_all}
+use Rattle.sample.proofs.SoFar.{filled_starts, all_if_none_left, all_if_enough, sampled_if_all}
 use Rattle.sample.proofs.filling.fill.Goals as goal
 use Rattle.sample.proofs.filling.fill.Goals.{in-None, in-Some+then-count-needed}
 
@@ -10,11 +10,6 @@ loop-entry-init g c =
     let m = c.args.memory.now in
     filled_starts g.M.Measure.laws g.M.Measure.encoding m.order.now c.args.limit c.args.k (plain_sketch m.sketches.home.now m.sketches.cells.now c.args.start) (entries_left c.into_iter-entry-iterator.result)
     (ap entries_left c.into_iter-entry-iterator.ensures.into_iter_gives ∙ c.entries-entry-items.ensures.whole) c.args.places.now
-
-pub loop-entry-preserved-then-is_within : goal.loop-entry-preserved-then-is_within
-loop-entry-preserved-then-is_within g c =
-    filled_more g.M.Measure.laws g.M.Measure.encoding c.args.memory.now.order.now c.args.limit c.loop-entry.invariant c.in-Some.entry _ c.in-Some.ensures.steps
-    (sym c.is_within.ensures ∙ c.if-is_within.true) c.if-count-needed.false c.requires c.order_row-row.result c.order_row-row.ensures
 
 pub returns : goal.returns
 returns g c =
