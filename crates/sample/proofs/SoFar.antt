@@ -1,5 +1,5 @@
 -- How a loop that reads a sketch keeps what is sampled so far.
-use Rattle.std.proofs.Common.{◌≡◌, ℕ, zero, suc, ◌+◌, ◌-◌, ◌<◌, ◌≤◌, Bool, true, false, cond, List, [], ◌∷◌, ◌++◌, map, length, take, drop, slice_index, slice_set, refl, sym, ap, ◌∙◌, arith}
+use Rattle.std.proofs.Common.{◌≡◌, ℕ, zero, suc, ◌+◌, ◌-◌, ◌<◌, ◌≤◌, Bool, true, cond, List, [], ◌∷◌, ◌++◌, map, length, take, drop, slice_index, slice_set, refl, sym, ap, ◌∙◌, arith}
 use Rattle.std.proofs.Math.Seq.{get_or-append_seam, set-append_seam}
 use Rattle.std.proofs.lemmas.List.{append-nil, append_assoc, drop_more, length-append, length-map, map-append}
 use Rattle.measure.specs.Laws.{OrderedMonoid, RowEncoding}
@@ -38,11 +38,10 @@ module _ {L R : Type 0} (laws : OrderedMonoid L) (rows : RowEncoding L R) (order
   none_of_none zero = refl
   none_of_none (suc j) = refl
 
-  none_past : (e : Entry R) (es : List (Entry R)) (j : ℕ) → is_within e ≡ false → rows_within j (e ∷ es) ≡ rows_within j es
-  none_past e es j past = ap (λ t. map (λ x. order_at order x.position) (take j (cond t (read_entry rows e ∷ entries_within laws limit (map (read_entry rows) es)) (entries_within laws limit (map (read_entry rows) es))))) past
-
   one_more : (e : Entry R) (es : List (Entry R)) (j : ℕ) → is_within e ≡ true → rows_within (suc j) (e ∷ es) ≡ order_at order e.position ∷ rows_within j es
-  one_more e es j near = ap (λ t. map (λ x. order_at order x.position) (take (suc j) (cond t (read_entry rows e ∷ entries_within laws limit (map (read_entry rows) es)) (entries_within laws limit (map (read_entry rows) es))))) near
+  one_more e es j near =
+      let rest = entries_within laws limit (map (read_entry rows) es) in
+      ap (λ t. map (λ x. order_at order x.position) (take (suc j) (cond t (read_entry rows e ∷ rest) rest))) near
 
   -- of the rows that are sampled in all, those so far are counted and written, and the others are of the entries left
   pub record Filled (k : ℕ) (all : List OrderRow) (left : List (Entry R)) (count last : ℕ) (before after : List ℕ) : Type 0 where
@@ -66,17 +65,6 @@ module _ {L R : Type 0} (laws : OrderedMonoid L) (rows : RowEncoding L R) (order
   }
 
   module _ {k : ℕ} {all : List OrderRow} {left : List (Entry R)} {count last : ℕ} {before after : List ℕ} (f : Filled k all left count last before after) where
-    pub filled_skips : (e : Entry R) (left' : List (Entry R)) → left ≡ e ∷ left' → is_within e ≡ false → Filled k all left' count last before after
-    filled_skips e left' is past = record {
-      so_far = f.so_far;
-      others = f.others;
-      whole = f.whole ∙ ap (λ es. f.so_far ++ rows_within f.others es) is ∙ ap (λ r. f.so_far ++ r) (none_past e left' f.others past);
-      room = f.room;
-      counted = f.counted;
-      last_rank = f.last_rank;
-      written = f.written;
-    }
-
     pub filled_more : (e : Entry R) (left' : List (Entry R)) → left ≡ e ∷ left' → is_within e ≡ true → (count ≡ k → ⊥) → k ≤ length before
         → (row : OrderRow) → row ≡ order_at order e.position → Filled k all left' (count + 1) row.rank before (slice_set after count row.place)
     filled_more e left' is near free long row of = go f.others f.whole f.room

@@ -14,8 +14,8 @@ use Rattle.examine.specs.Memories.{FailsFirst}
 use Rattle.examine.specs.declared.memory.Memory.{Memory}
 use Rattle.sample.specs.declared.told.Sample.{Sample}
 
--- why a sample is refused, of the k places that the start notes, into a buffer of some length: the memory fails a test, of which the
--- first is told by its number; there is no such place; or the buffer is shorter than k
+-- why a sample of k places into a buffer of this room is refused: the memory fails a test, of which the first is told by its number;
+-- there is no such place; or the buffer is shorter than k
 abbrev pub sample_causes : {R : Type 0} → Memory R → (k start room : ℕ) → List Cause
 sample_causes m k start room =
     cause 8 Atlas (λ w. (test : MemoryTest) × FailsFirst m None test × (w ≡ test_number test))

@@ -38,7 +38,7 @@ pub(crate) fn fill<M: Measure>(
     let needed = k as usize;
     let mut count = 0;
     let mut last_rank = 0;
-    // A loop over all entries: one over a chain with a closure gets no proof yet where lengths are of any measure.
+    // No `filter` and `take`: a loop over a chain with a closure gets no proof yet where lengths are of any measure.
     for entry in memory.sketches.entries(start) {
         if count == needed {
             break;
