@@ -12,12 +12,7 @@ use std::process::Abort;
 const UNWRITTEN: u16 = 777;
 
 /// The sample of a place within a limit is these places, with this figure, and the rest of a longer buffer is unchanged.
-fn check_sample(
-    rt: &impl Abort,
-    (k, start, limit): (u32, u32, u32),
-    due: &[u16],
-    figure: Figure,
-) {
+fn check_sample(rt: &impl Abort, (k, start, limit): (u32, u32, u32), due: &[u16], figure: Figure) {
     let mut places = [UNWRITTEN; 8];
     let told = sample(town().memory(), k, start, Seconds::new(limit), &mut places);
     let count = due.len();
