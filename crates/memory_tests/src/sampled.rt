@@ -45,9 +45,9 @@ fn sampled(rt: HostRuntime) {
     check_sample(&rt, (2, 0, 299), &[1, 0], Figure::Estimated(1));
     check_sample(&rt, (2, 0, 300), &[1, 3], Figure::Estimated(4));
     check_sample(&rt, (2, 0, 99), &[0], Figure::Exact(1));
-    // it has no more entries than 3, so that they are counted
+    // it notes three places in all, fewer than 8: they are counted exactly
     check_sample(&rt, (8, 0, 300), &[1, 3, 0], Figure::Exact(3));
-    // nothing is sampled of no place
+    // with k of 0 nothing is sampled, and no rank divides
     check_sample(&rt, (0, 0, 300), &[], Figure::Estimated(0));
 }
 
