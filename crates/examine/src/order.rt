@@ -10,7 +10,7 @@ use tables::rows::OrderRow;
 
 impl<R: Copy> Memory<'_, R> {
     /// The row of a position; past the table's end rank 0, which no position has.
-    fn order_row(&self, position: usize) -> OrderRow
+    pub fn order_row(&self, position: usize) -> OrderRow
         ensures { result ≡ order_at self.now.order.now position }
     {
         let past = OrderRow { rank: 0, place: 0 };

@@ -7,7 +7,7 @@ use crate::view::Sketches;
 use measure::Measure;
 
 /// Whether an entry of this length is at most `limit` long.
-fn is_within<M: Measure>(length: M::Row, limit: M) -> bool
+pub fn is_within<M: Measure>(length: M::Row, limit: M) -> bool
     ensures { result ≡ M.Measure.laws.at_most (M.Measure.encoding.reads length) limit }
 {
     M::read(length).at_most(limit)
