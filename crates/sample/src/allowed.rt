@@ -29,7 +29,7 @@ fn check_room(k: u32, room: usize) -> Result<(), AtlasFault>
     Ok(())
 }
 
-/// The start as a place: the memory passes its tests, there is such a place, and the buffer has room for k places.
+/// The start as a place, where the memory passes its tests, there is such a place, and the buffer has room for k places.
 pub(crate) fn allowed_start<R: Copy>(
     memory: &Memory<'_, R>,
     k: u32,

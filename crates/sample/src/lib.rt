@@ -1,6 +1,7 @@
 //! The sample of a place within a limit, taken on an atlas's memory: on any tables at all, sound or not.
 //!
-//! It makes the five tests, walks one sketch, and writes as many places as it samples. The tables are only read.
+//! It makes the tests of memory, but for the one of a map, since none is given, walks one sketch, and writes as many places as it
+//! samples. The tables are only read.
 #![tactic(auto)]
 
 ghost use Rattle.std.specs.Prelude.{◌≡◌, length, MatchResult};
@@ -19,7 +20,7 @@ mod filling;
 pub mod told;
 
 /// Writes the first k places, by rank, that the start notes within the limit to the front of the buffer, and tells how many they
-/// are and how many they stand for. The rest of the buffer is unchanged; after a refusal all of it is.
+/// are and how many they stand for. The rest of the buffer is unchanged, and after a refusal the whole buffer.
 pub fn sample<M: Measure>(
     memory: Memory<'_, M::Row>,
     k: u32,
