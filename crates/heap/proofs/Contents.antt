@@ -6,10 +6,10 @@ use Rattle.std.proofs.lemmas.List.{get_or-set_same, get_or-set_other, get_or_def
 use Rattle.std.proofs.lemmas.Option.{slice_get-get_or, slice_get_past}
 use Rattle.std.proofs.lemmas.Bool.{cases_Bool, cases_lt, cond-false, cond-true}
 use Rattle.std.proofs.lemmas.Bool.Decides.{eqb_tells}
+use Rattle.measure.specs.Orders.{TotalOrder}
 use Rattle.heap.specs.declared.indexed_heap.IndexedHeap.{IndexedHeap}
-use Rattle.heap.specs.declared.key.Key.{Ghosts}
 use Rattle.heap.specs.Changes.{Least, With}
-use Rattle.heap.specs.Content.{content, size}
+use Rattle.heap.specs.Content.{Ordered, content, size}
 use Rattle.heap.specs.Heaped.{HeapedButAbove, HeapedButBelow, above, key_in}
 use Rattle.heap.specs.Pairing.{mark, waits}
 use Rattle.heap.proofs.Counts.{how_many_none, how_many_same, how_many_listed}
@@ -52,7 +52,7 @@ entry_removed : {K : Type 0} (here w : Bool) (old : Option K) → cond (cond her
 entry_removed true w old = refl
 entry_removed false w old = refl
 
-module _ {K : Type 0} {bound : Ghosts K} (h : IndexedHeap K bound) where
+module _ {K : Type 0} (h : IndexedHeap K) where
   pub content_none : (p : ℕ) → waits h.table.positions p ≡ false → content h p ≡ None
   unfolding content
   content_none p e = cond-false (waits h.table.positions p) (slice_get h.keys p) None e
@@ -107,55 +107,58 @@ module _ {K : Type 0} {bound : Ghosts K} (h : IndexedHeap K bound) where
       → content h place ≡ Some (get_or h.keys place d)
   first_held place d first some = content_some place d (ap (waits h.table.positions) first ∙ filled_waits h.table 0 some)
 
-module _ {K : Type 0} {bound : Ghosts K} (h : IndexedHeap K bound) where
+module _ {K : Type 0} (o : TotalOrder K) (h : IndexedHeap K) where
   -- a new last slot, with a place that was absent
   pub append_above : (place : ℕ) (key : K) (slots : List ℕ) (len at : ℕ) → waits h.table.positions place ≡ false
-      → slots ≡ set h.table.slots h.table.len place → len ≡ h.table.len + 1 → at ≡ h.table.len
-      → HeapedButAbove bound.order (key_in bound.order (set h.keys place key) slots) len at
-  append_above place key slots len at absent e l a =
-      let same : (i : ℕ) → i < h.table.len → key_in bound.order (set h.keys place key) slots i ≡ key_in bound.order h.keys h.table.slots i =
+      → slots ≡ set h.table.slots h.table.len place → len ≡ h.table.len + 1 → at ≡ h.table.len → Ordered o h
+      → HeapedButAbove o (key_in o (set h.keys place key) slots) len at
+  unfolding Ordered
+  append_above place key slots len at absent e l a ordered =
+      let same : (i : ℕ) → i < h.table.len → key_in o (set h.keys place key) slots i ≡ key_in o h.keys h.table.slots i =
       λ i b.
       let p = get_or h.table.slots i 0 in
       let w = filled_waits h.table i b in
-      ap (λ s. get_or (set h.keys place key) (get_or s i 0) bound.order.least) e
-      ∙ ap (λ q. get_or (set h.keys place key) q bound.order.least) (get_or-set_other h.table.slots h.table.len i place 0 (λ q. omega arith))
-      ∙ get_or-set_other h.keys place p key bound.order.least (λ q. let z : true ≡ false = cc in grind arith) in (
-        (λ i b k ne. let x = same i (omega arith) in let y = same (above i) (omega arith) in let z = h.ordered i b (omega arith) in grind arith),
+      ap (λ s. get_or (set h.keys place key) (get_or s i 0) o.least) e
+      ∙ ap (λ q. get_or (set h.keys place key) q o.least) (get_or-set_other h.table.slots h.table.len i place 0 (λ q. omega arith))
+      ∙ get_or-set_other h.keys place p key o.least (λ q. let z : true ≡ false = cc in grind arith) in (
+        (λ i b k ne. let x = same i (omega arith) in let y = same (above i) (omega arith) in let z = ordered i b (omega arith) in grind arith),
         (λ i b k q p. absurd (omega arith)),
       )
 
   -- a smaller key for a place that waits
-  pub lower_above : (place at : ℕ) (key : K) → IsSomeAnd (content h place) (λ old. T (bound.order.at_most key old))
-      → at ≡ mark h.table.positions place
-      → HeapedButAbove bound.order (key_in bound.order (set h.keys place key) h.table.slots) h.table.len at
-  lower_above place at key lower e =
-      let by = some_from_by (content h place) (λ old. T (bound.order.at_most key old)) lower in
+  pub lower_above : (place at : ℕ) (key : K) → IsSomeAnd (content h place) (λ old. T (o.at_most key old))
+      → at ≡ mark h.table.positions place → Ordered o h
+      → HeapedButAbove o (key_in o (set h.keys place key) h.table.slots) h.table.len at
+  unfolding Ordered
+  lower_above place at key lower e ordered =
+      let by = some_from_by (content h place) (λ old. T (o.at_most key old)) lower in
       let old = by.0 in
       let held = by.1.0 in
       let less = by.1.1 in
-      let f = key_in bound.order h.keys h.table.slots in
-      let g = key_in bound.order (set h.keys place key) h.table.slots in
+      let f = key_in o h.keys h.table.slots in
+      let g = key_in o (set h.keys place key) h.table.slots in
       let w = waits_from_some h place old held in
       let s = waits_placed h.table place w in
-      let n = content_some h place bound.order.least w in
+      let n = content_some h place o.least w in
       let stands : get_or h.table.slots at 0 ≡ place = ap (λ i. get_or h.table.slots i 0) e ∙ s.1 in
       let now : g at ≡ key =
-      ap (λ p. get_or (set h.keys place key) p bound.order.least) stands ∙ get_or-set_same h.keys place key bound.order.least (omega arith) in
-      let q = ap (λ p. get_or h.keys p bound.order.least) stands in
+      ap (λ p. get_or (set h.keys place key) p o.least) stands ∙ get_or-set_same h.keys place key o.least (omega arith) in
+      let q = ap (λ p. get_or h.keys p o.least) stands in
       let was : f at ≡ old = cc in
       let other : (i : ℕ) → i < h.table.len → (i ≡ at → ⊥) → g i ≡ f i =
       λ i b ne.
-      get_or-set_other h.keys place (get_or h.table.slots i 0) key bound.order.least
+      get_or-set_other h.keys place (get_or h.table.slots i 0) key o.least
       (λ q. ne (let x = (h.table.filled i b).1 in cc)) in
-      up_from_lower bound.order f g h.table.len at h.ordered (omega arith) other (grind arith)
+      up_from_lower o f g h.table.len at ordered (omega arith) other (grind arith)
 
   -- the last slot's place in the first slot
   pub take_below : (slots : List ℕ) (last len : ℕ) → h.table.len ≡ last + 1 → len ≡ last
-      → Swapped (key_in bound.order h.keys h.table.slots) (key_in bound.order h.keys slots) 0 last
-      → HeapedButBelow bound.order (key_in bound.order h.keys slots) len 0
-  take_below slots last len e l s = (
+      → Swapped (key_in o h.keys h.table.slots) (key_in o h.keys slots) 0 last → Ordered o h
+      → HeapedButBelow o (key_in o h.keys slots) len 0
+  unfolding Ordered
+  take_below slots last len e l s ordered = (
     (λ i b k ne.
-        let z = h.ordered i b (omega arith) in
+        let z = ordered i b (omega arith) in
         let x = s.2 i (λ q. omega arith) (λ q. omega arith) in
         let y = s.2 (above i) ne (λ q. omega arith) in
         grind arith),
@@ -163,22 +166,23 @@ module _ {K : Type 0} {bound : Ghosts K} (h : IndexedHeap K bound) where
   )
 
   -- the key of the first slot's place is at most every key held
-  pub first_key_least : (place : ℕ) (d : K) → place ≡ get_or h.table.slots 0 0 → 0 < h.table.len
-      → Least bound.order (content h) (get_or h.keys place d)
-  first_key_least place d first some p k c =
+  pub first_key_least : (place : ℕ) (d : K) → place ≡ get_or h.table.slots 0 0 → 0 < h.table.len → Ordered o h
+      → Least o (content h) (get_or h.keys place d)
+  unfolding Ordered
+  first_key_least place d first some ordered p k c =
       let f = h.table.filled 0 some in
-      let x = ap (λ q. get_or h.keys q bound.order.least) first in
-      let e = get_or_default h.keys place d bound.order.least (omega arith) in
+      let x = ap (λ q. get_or h.keys q o.least) first in
+      let e = get_or_default h.keys place d o.least (omega arith) in
       let t = waits_from_some h p k c in
       let w = waits_placed h.table p t in
-      let q = ap (λ x. get_or h.keys x bound.order.least) w.1 in
-      let n = content_some h p bound.order.least t in
-      let v : get_or h.keys p bound.order.least ≡ k = cc in
-      let z = first_least bound.order (key_in bound.order h.keys h.table.slots) h.table.len h.ordered (mark h.table.positions p) w.0 in
+      let q = ap (λ x. get_or h.keys x o.least) w.1 in
+      let n = content_some h p o.least t in
+      let v : get_or h.keys p o.least ≡ k = cc in
+      let z = first_least o (key_in o h.keys h.table.slots) h.table.len ordered (mark h.table.positions p) w.0 in
       grind arith
 
 -- nothing is held exactly if the size is 0
-module _ {K : Type 0} {bound : Ghosts K} (h : IndexedHeap K bound) where
+module _ {K : Type 0} (h : IndexedHeap K) where
   pub none_from_size : size h ≡ 0 → (p : ℕ) → content h p ≡ None
   none_from_size e = none_held h (let n = size_is_len h in omega arith)
 
@@ -187,7 +191,7 @@ module _ {K : Type 0} {bound : Ghosts K} (h : IndexedHeap K bound) where
   size_from_none none = how_many_none 4096 (λ p. is_some (content h p)) (λ p. ap is_some (none p))
 
 -- what a call leaves of the content and the size, from what it leaves of the table and the keys
-module _ {K : Type 0} {bound : Ghosts K} (before after : IndexedHeap K bound) where
+module _ {K : Type 0} (before after : IndexedHeap K) where
   pub with_written : (place : ℕ) (key : K) → place < 4096 → after.keys ≡ set before.keys place key
       → ((p : ℕ) → waits after.table.positions p ≡ cond (eqb p place) true (waits before.table.positions p))
       → With (content before) place (Some key) (content after)

@@ -5,9 +5,8 @@ use Rattle.std.proofs.lemmas.Bool.{cases_eq, cases_lt}
 use Rattle.std.proofs.lemmas.Bool.Decides.{eqb_tells}
 use Rattle.measure.specs.Orders.{TotalOrder}
 use Rattle.heap.specs.declared.indexed_heap.IndexedHeap.{IndexedHeap}
-use Rattle.heap.specs.declared.key.Key.{Ghosts}
 use Rattle.heap.specs.Changes.{Least, Removed, With}
-use Rattle.heap.specs.Content.{content, size}
+use Rattle.heap.specs.Content.{Ordered, content, size}
 use Rattle.heap.specs.Drained.{Drained, HandsOutAll, Rising}
 use Rattle.heap.proofs.Contents.{none_from_size}
 use Rattle.heap.proofs.Steps.{reflexive}
@@ -124,19 +123,20 @@ module _ {K : Type 0} where
           (last_or_earlier i l);
     }
 
-module _ {K : Type 0} {bound : Ghosts K} (o : TotalOrder K) (before middle after : IndexedHeap K bound) (places : List ℕ) (count : ℕ) where
+module _ {K : Type 0} (o : TotalOrder K) (before middle after : IndexedHeap K) (places : List ℕ) (count : ℕ) where
   -- one more place is taken out and written behind the others
   pub drained_next : (place : ℕ) (key : K) → count < length places → Removed o middle place key after
       → Drained (content before) places count (content middle) → Drained (content before) (set places count place) (count + 1) (content after)
   drained_next place key room r = drained_more (content before) (content middle) (content after) places count place key room r.held r.rest
 
-  pub rising_next : (place : ℕ) (key : K) → count < length places → Removed o middle place key after
+  pub rising_next : (place : ℕ) (key : K) → count < length places → Removed o middle place key after → Ordered o middle
       → Drained (content before) places count (content middle) → Rising o (content before) places count (content middle)
       → Rising o (content before) (set places count place) (count + 1) (content after)
-  rising_next place key room r d = rising_more (content before) (content middle) (content after) places count place key room r.held r.rest d o r.least
+  rising_next place key room r ordered d =
+      rising_more (content before) (content middle) (content after) places count place key room r.held r.rest d o (r.least ordered)
 
 -- as many places as were held are all that were held
-module _ {K : Type 0} {bound : Ghosts K} (before after : IndexedHeap K bound) (places : List ℕ) (count : ℕ) where
+module _ {K : Type 0} (before after : IndexedHeap K) (places : List ℕ) (count : ℕ) where
   pub all_handed_out : (n : ℕ) → Drained (content before) places count (content after) → size after + count ≡ size before
       → count ≡ n → size before ≤ n → HandsOutAll (content before) places n
   all_handed_out n d left e fits =

@@ -4,10 +4,9 @@ use Rattle.std.specs.Prelude.{◌≡◌, ℕ, ◌+◌, ◌<◌, ◌≤◌, true,
 use Rattle.std.specs.Map.{update}
 use Rattle.measure.specs.Orders.{TotalOrder}
 use Rattle.heap.specs.declared.indexed_heap.IndexedHeap.{IndexedHeap}
-use Rattle.heap.specs.declared.key.Key.{Ghosts}
 use Rattle.heap.specs.declared.refusal.HeapRefusal.{HeapRefusal}
 use Rattle.heap.specs.declared.refusal.HeapRefusal.TheVariants.{NoSuchPlace, Waiting, NotWaiting, HigherKey}
-use Rattle.heap.specs.Content.{content, size}
+use Rattle.heap.specs.Content.{Ordered, content, size}
 
 module _ {K : Type 0} where
   -- what is held at one place, written anew, and at every other as it was
@@ -18,9 +17,8 @@ module _ {K : Type 0} where
   abbrev pub Least : TotalOrder K → (ℕ → Option K) → K → Type 0
   Least o held key = (p : ℕ) (k : K) → held p ≡ Some k → T (o.at_most key k)
 
-module _ {K : Type 0} {bound : Ghosts K} where
   -- a place comes in if there is such a place and it does not wait
-  abbrev pub Pushed : IndexedHeap K bound → ℕ → K → Result (Unit {0}) HeapRefusal → IndexedHeap K bound → Type 0
+  abbrev pub Pushed : IndexedHeap K → ℕ → K → Result (Unit {0}) HeapRefusal → IndexedHeap K → Type 0
   Pushed before place key (Ok _) after =
       (place < 4096)
       × (is_some (content before place) ≡ false)
@@ -32,7 +30,7 @@ module _ {K : Type 0} {bound : Ghosts K} where
   Pushed before place key (Err HigherKey) after = ⊥
 
   -- a key is lowered if the place waits, with a key that is not below it
-  abbrev pub Lowered : TotalOrder K → IndexedHeap K bound → ℕ → K → Result (Unit {0}) HeapRefusal → IndexedHeap K bound → Type 0
+  abbrev pub Lowered : TotalOrder K → IndexedHeap K → ℕ → K → Result (Unit {0}) HeapRefusal → IndexedHeap K → Type 0
   Lowered o before place key (Ok _) after =
       IsSomeAnd (content before place) (λ old. T (o.at_most key old))
       × With (content before) place (Some key) (content after)
@@ -43,14 +41,14 @@ module _ {K : Type 0} {bound : Ghosts K} where
   Lowered o before place key (Err HigherKey) after =
       IsSomeAnd (content before place) (λ old. T (o.at_most key old) → ⊥) × (after ≡ before)
 
-  -- a place is taken out with its key, which is at most every key held
-  pub record Removed (o : TotalOrder K) (before : IndexedHeap K bound) (place : ℕ) (key : K) (after : IndexedHeap K bound) : Type 0 where
+  -- a place is taken out with its key, which in an ordered heap is at most every key held
+  pub record Removed (o : TotalOrder K) (before : IndexedHeap K) (place : ℕ) (key : K) (after : IndexedHeap K) : Type 0 where
     pub held : content before place ≡ Some key
-    pub least : Least o (content before) key
+    pub least : Ordered o before → Least o (content before) key
     pub rest : With (content before) place None (content after)
     pub fewer : size before ≡ size after + 1
 
   -- a place is taken out if one waits
-  abbrev pub Taken : TotalOrder K → IndexedHeap K bound → Option (ℕ × K) → IndexedHeap K bound → Type 0
+  abbrev pub Taken : TotalOrder K → IndexedHeap K → Option (ℕ × K) → IndexedHeap K → Type 0
   Taken o before None after = ((p : ℕ) → content before p ≡ None) × (after ≡ before)
   Taken o before (Some w) after = Removed o before w.0 w.1 after

@@ -1,7 +1,7 @@
 //! How a place moves through the slots until the order of the heap holds again.
 //!
-//! The keys come beside the table and not in one struct with it: a struct of both would be the heap again
-//! without its order, and each clause would say of the keys that they stay.
+//! The keys come beside the table and not in one struct with it: a struct of both would be the heap again,
+//! out of which the table was taken, and each clause would say of the keys that they stay.
 //!
 //! Five functions, three of them here, ask that a slot is below the length. That is so in this very table,
 //! and a type of slots could not say in which table.

@@ -3,7 +3,8 @@
 
 ghost use Rattle.std.specs.Prelude.{◌≡◌, ◌+◌, ◌*◌, ◌%◌, ◌^◌, OnOk, OnErr, Some};
 ghost use Rattle.heap.specs.Changes.{With};
-ghost use Rattle.heap.specs.Content.{content};
+ghost use Rattle.heap.specs.Content.{Ordered, content};
+ghost use Rattle.heap.specs.Keys.{rank_place_order};
 
 use heap::indexed_heap::IndexedHeap;
 use heap::key::rank_place::RankPlace;
@@ -27,6 +28,7 @@ fn next(seed: u32) -> u32
 fn offer(heap: &mut IndexedHeap<RankPlace>, place: u16, key: RankPlace) -> Result<(), HeapRefusal>
     ensures offered { OnOk result (With (content heap.old) place (Some key) (content heap.new)) }
     ensures refused { OnErr result (heap.new ≡ heap.old) }
+    ensures ordered { Ordered rank_place_order heap.old → Ordered rank_place_order heap.new }
 {
     match heap.push(place, key) {
         Err(HeapRefusal::Waiting) => heap.lower(place, key),
@@ -35,7 +37,9 @@ fn offer(heap: &mut IndexedHeap<RankPlace>, place: u16, key: RankPlace) -> Resul
 }
 
 /// Makes so many operations, of which six in sixteen take the least, and gives a sum over what was taken.
-fn mixed(heap: &mut IndexedHeap<RankPlace>, operations: u32) -> u32 {
+fn mixed(heap: &mut IndexedHeap<RankPlace>, operations: u32) -> u32
+    ensures { Ordered rank_place_order heap.old → Ordered rank_place_order heap.new }
+{
     let mut seed = 1;
     let mut sum: u32 = 0;
     for _ in 0..operations {

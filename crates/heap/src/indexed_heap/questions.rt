@@ -1,6 +1,6 @@
 //! The empty heap, and what a heap answers about the places that wait.
 ghost use Rattle.std.specs.Prelude.{◌≡◌, ℕ, is_some, None, ◌==◌};
-ghost use Rattle.heap.specs.Content.{content, size};
+ghost use Rattle.heap.specs.Content.{Ordered, content, size};
 
 use super::IndexedHeap;
 use crate::PLACES;
@@ -10,9 +10,10 @@ use crate::table::Table;
 
 impl<K: Key> IndexedHeap<K> {
     /// The heap in which no place waits.
-    #[tactic(auto, unfolding(crate::specs::Content::content))]
+    #[tactic(auto, unfolding(crate::specs::Content::Ordered, crate::specs::Content::content))]
     pub fn new() -> IndexedHeap<K>
-        ensures { (p : ℕ) → content result p ≡ None }
+        ensures empty { (p : ℕ) → content result p ≡ None }
+        ensures ordered { Ordered K.Key.order result }
     {
         let least = K::least();
         IndexedHeap {

@@ -4,7 +4,7 @@
 //! place it is proved as well, and heap_trial's operations then take 0.06 s in place of 0.31.
 ghost use Rattle.std.specs.Prelude.{◌≡◌, ◌+◌, ◌<◌, false, T, is_some, IsSomeAnd, Some};
 ghost use Rattle.heap.specs.Changes.{Removed, With};
-ghost use Rattle.heap.specs.Content.{content, size};
+ghost use Rattle.heap.specs.Content.{Ordered, content, size};
 
 use super::IndexedHeap;
 use crate::key::Key;
@@ -17,6 +17,7 @@ impl<K: Key> IndexedHeap<K> {
         requires { is_some (content self.old place.number) ≡ false }
         ensures with { With (content self.old) place.number (Some key) (content self.new) }
         ensures size { size self.new ≡ size self.old + 1 }
+        ensures ordered { Ordered K.Key.order self.old → Ordered K.Key.order self.new }
     {
         self.keys[place.number as usize] = key;
         let mut table = self.table;
@@ -32,6 +33,7 @@ impl<K: Key> IndexedHeap<K> {
         requires { IsSomeAnd (content self.old place.number) (λ old. T (K.Key.order.at_most key old)) }
         ensures with { With (content self.old) place.number (Some key) (content self.new) }
         ensures size { size self.new ≡ size self.old }
+        ensures ordered { Ordered K.Key.order self.old → Ordered K.Key.order self.new }
     {
         self.keys[place.number as usize] = key;
         let mut table = self.table;
@@ -43,7 +45,8 @@ impl<K: Key> IndexedHeap<K> {
     /// Takes out the place in the first slot, where some place waits.
     pub(super) fn take_first(&mut self) -> (u16, K)
         requires { 0 < self.old.table.len }
-        ensures { Removed K.Key.order self.old result.0 result.1 self.new }
+        ensures removed { Removed K.Key.order self.old result.0 result.1 self.new }
+        ensures ordered { Ordered K.Key.order self.old → Ordered K.Key.order self.new }
     {
         let mut table = self.table;
         let last = table.len() - 1;
