@@ -1,8 +1,6 @@
 -- Cells of a grid: the place of a cell taken apart again, the places beside it, and what they are sources of.
-use Rattle.std.proofs.Common.{◌≡◌, ℕ, ◌+◌, ◌-◌, ◌*◌, ◌/◌, ◌%◌, ◌<◌, Bool, true, false, cond, ◌&&◌, T, ltb, List, [], ◌∷◌, ◌++◌, map, get_or, take, Some, None, Option, option_to_list, is_some, IfSome, sym, refl, ap, ◌∙◌, subst₂, add-mul, one-mul, arith, ltb→lt}
-use Rattle.std.specs.Bool.{then_some}
+use Rattle.std.proofs.Common.{◌≡◌, ℕ, ◌+◌, ◌-◌, ◌*◌, ◌/◌, ◌%◌, ◌<◌, Bool, true, false, cond, ◌&&◌, T, ltb, List, [], ◌∷◌, ◌++◌, map, get_or, take, Some, Option, option_to_list, sym, refl, ap, ◌∙◌, subst₂, add-mul, one-mul, arith, ltb→lt}
 use Rattle.std.specs.List.{slice_get, flat_map}
-use Rattle.std.specs.Option.{option_and_then}
 use Rattle.std.proofs.lemmas.Nat.{div-add-mod', div_below, mod_below, div-mul-add, mod-mul-add}
 use Rattle.std.proofs.lemmas.List.{append-nil, get_or-take}
 use Rattle.std.proofs.lemmas.Bool.{cond-true, lt-ltb}
@@ -16,22 +14,6 @@ use Rattle.graph.proofs.Lists.{all_in, nth_in}
 source_same : (bytes : List ℕ) (exists : Bool) (p q : ℕ) → (T exists → p ≡ q) → source bytes exists p ≡ source bytes exists q
 source_same bytes true p q h = ap (source bytes true) (h tt)
 source_same bytes false p q h = refl
-
--- a place, if there is one and it is not barred
-abbrev pub if_open : List ℕ → Option ℕ → Option ℕ
-if_open bytes = option_and_then (λ p. then_some (is_open bytes p) p)
-
--- a place that may be missing: there exactly if it exists
-abbrev pub PlaceIf : Bool → ℕ → Option ℕ → Type 0
-PlaceIf exists p o = (is_some o ≡ exists) × IfSome o (λ q. q ≡ p)
-
-source_if_open : (bytes : List ℕ) (exists : Bool) (p : ℕ) (o : Option ℕ) → PlaceIf exists p o → option_to_list (if_open bytes o) ≡ source bytes exists p
-source_if_open bytes exists p None is = ap (λ b. source bytes b p) is.0
-source_if_open bytes exists p (Some q) is = go (is_open bytes q) ∙ (λ i. source bytes (is.0 i) (is.1 i))
-  where
-    go : (b : Bool) → option_to_list (then_some b q) ≡ cond (true && b) (q ∷ []) []
-    go true = refl
-    go false = refl
 
 pred_row : (row columns : ℕ) → 0 < row → (row - 1) * columns + columns ≡ row * columns
 pred_row row columns h =
@@ -61,9 +43,12 @@ module _ (rows columns place : ℕ) (some : 0 < columns) (inside : place < rows 
   below_is = omega (arith, here_is, add-mul (place / columns) 1 columns, one-mul columns)
 
   -- the places beside it that are not barred are its sources
-  pub all_sources : (bytes : List ℕ) (above left right below : Option ℕ) → is_open bytes place ≡ true → PlaceIf (ltb 0 (place / columns)) (place - columns) above →
-      PlaceIf (ltb 0 (place % columns)) (place - 1) left → PlaceIf (ltb (place % columns + 1) columns) (place + 1) right → PlaceIf (ltb (place / columns + 1) rows) (place + columns) below →
-      flat_map option_to_list (map (if_open bytes) (above ∷ left ∷ right ∷ below ∷ [])) ≡ sources_of rows columns bytes place
+  pub all_sources : (bytes : List ℕ) (above left right below : Option ℕ) → is_open bytes place ≡ true →
+      option_to_list above ≡ source bytes (ltb 0 (place / columns)) (place - columns) →
+      option_to_list left ≡ source bytes (ltb 0 (place % columns)) (place - 1) →
+      option_to_list right ≡ source bytes (ltb (place % columns + 1) columns) (place + 1) →
+      option_to_list below ≡ source bytes (ltb (place / columns + 1) rows) (place + columns) →
+      flat_map option_to_list (above ∷ left ∷ right ∷ below ∷ []) ≡ sources_of rows columns bytes place
   all_sources bytes above left right below free up back on down =
       (λ i. a1 i ++ (a2 i ++ (a3 i ++ a4 i)))
       ∙ sym (cond-true (ltb place (rows * columns)) _ [] (lt-ltb _ _ inside) ∙ cond-true (is_open bytes (cell columns (place / columns) (place % columns))) _ [] not_barred)
@@ -71,17 +56,17 @@ module _ (rows columns place : ℕ) (some : 0 < columns) (inside : place < rows 
       not_barred : is_open bytes (cell columns (place / columns) (place % columns)) ≡ true
       not_barred = ap (is_open bytes) here_is ∙ free
 
-      a1 : option_to_list (if_open bytes above) ≡ source bytes (ltb 0 (place / columns)) (cell columns (place / columns - 1) (place % columns))
-      a1 = source_if_open bytes _ _ above up ∙ source_same bytes (ltb 0 (place / columns)) _ _ (λ t. above_is (ltb→lt 0 (place / columns) t))
+      a1 : option_to_list above ≡ source bytes (ltb 0 (place / columns)) (cell columns (place / columns - 1) (place % columns))
+      a1 = up ∙ source_same bytes (ltb 0 (place / columns)) _ _ (λ t. above_is (ltb→lt 0 (place / columns) t))
 
-      a2 : option_to_list (if_open bytes left) ≡ source bytes (ltb 0 (place % columns)) (cell columns (place / columns) (place % columns - 1))
-      a2 = source_if_open bytes _ _ left back ∙ source_same bytes (ltb 0 (place % columns)) _ _ (λ t. left_is (ltb→lt 0 (place % columns) t))
+      a2 : option_to_list left ≡ source bytes (ltb 0 (place % columns)) (cell columns (place / columns) (place % columns - 1))
+      a2 = back ∙ source_same bytes (ltb 0 (place % columns)) _ _ (λ t. left_is (ltb→lt 0 (place % columns) t))
 
-      a3 : option_to_list (if_open bytes right) ≡ source bytes (ltb (place % columns + 1) columns) (cell columns (place / columns) (place % columns + 1))
-      a3 = source_if_open bytes _ _ right on ∙ ap (source bytes (ltb (place % columns + 1) columns)) right_is
+      a3 : option_to_list right ≡ source bytes (ltb (place % columns + 1) columns) (cell columns (place / columns) (place % columns + 1))
+      a3 = on ∙ ap (source bytes (ltb (place % columns + 1) columns)) right_is
 
-      a4 : option_to_list (if_open bytes below) ++ [] ≡ source bytes (ltb (place / columns + 1) rows) (cell columns (place / columns + 1) (place % columns))
-      a4 = append-nil _ ∙ source_if_open bytes _ _ below down ∙ ap (source bytes (ltb (place / columns + 1) rows)) below_is
+      a4 : option_to_list below ++ [] ≡ source bytes (ltb (place / columns + 1) rows) (cell columns (place / columns + 1) (place % columns))
+      a4 = append-nil _ ∙ down ∙ ap (source bytes (ltb (place / columns + 1) rows)) below_is
 
 -- a source is a place
 pub source_inside : (g : Grid) (place i from : ℕ) → slice_get (sources_of g.rows g.columns g.bytes place) i ≡ Some from → from < g.rows * g.columns

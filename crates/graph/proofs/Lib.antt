@@ -5,6 +5,6 @@ pub mod Joined
 pub mod Shortest
 pub mod Computed
 pub mod LeastWays
-pub mod Arrays
+pub mod Sources
 pub mod Cells
 pub mod Alike

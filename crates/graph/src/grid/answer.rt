@@ -32,7 +32,7 @@ impl Map for Grid {
     }
 
     fn arrivals(&self, place: usize) -> usize {
-        self.sources(place).into_iter().flatten().count()
+        self.source_count(place)
     }
 
     fn arrival(&self, place: usize, i: usize) -> Option<Arc<Seconds>> {

@@ -1,7 +1,7 @@
 //! The places from which arcs arrive at a cell.
-ghost use Rattle.std.specs.Prelude.{◌≡◌, option_to_list};
+ghost use Rattle.std.specs.Prelude.{◌≡◌, length, option_to_list};
 ghost use Rattle.std.specs.List.{flat_map, slice_get};
-ghost use Rattle.graph.specs.Grids.{is_open};
+ghost use Rattle.graph.specs.Grids.{is_open, source};
 ghost use Rattle.graph.specs.GridGraphs.{sources_of};
 
 use super::Grid;
@@ -15,6 +15,13 @@ impl Grid {
         self.bytes.get(place).is_some_and(|byte| *byte != 0)
     }
 
+    /// The place of a cell beside another, if there is such a cell and it is not barred.
+    fn beside(&self, exists: bool, place: usize) -> Option<usize>
+        ensures { option_to_list result ≡ source self.now.bytes exists place }
+    {
+        (exists && self.open(place)).then_some(place)
+    }
+
     /// The places from which arcs arrive at a place: those above, left, right and below that exist and are not barred, in this order.
     pub(super) fn sources(&self, place: usize) -> [Option<usize>; 4]
         ensures { flat_map option_to_list result ≡ sources_of self.now.rows self.now.columns self.now.bytes place }
@@ -24,17 +31,26 @@ impl Grid {
         }
         let row = place / self.columns;
         let column = place % self.columns;
-        let above = (row > 0).then(|| place - self.columns);
-        let left = (column > 0).then(|| place - 1);
-        let right = (column + 1 < self.columns).then(|| place + 1);
-        let below = (row + 1 < self.rows).then(|| place + self.columns);
-        [above, left, right, below].map(|beside| beside.filter(|place| self.open(*place)))
+        let above = self.beside(row > 0, place.saturating_sub(self.columns));
+        let left = self.beside(column > 0, place.saturating_sub(1));
+        let right = self.beside(column + 1 < self.columns, place + 1);
+        let below = self.beside(row + 1 < self.rows, place + self.columns);
+        [above, left, right, below]
+    }
+
+    /// How many sources a place has.
+    pub(super) fn source_count(&self, place: usize) -> usize
+        ensures { result ≡ length (sources_of self.now.rows self.now.columns self.now.bytes place) }
+    {
+        let sources = self.sources(place);
+        sources.iter().filter_map(|source| *source).count()
     }
 
     /// The source of number `i` of a place, counted from 0, if there are so many.
     pub(super) fn source(&self, place: usize, i: usize) -> Option<usize>
         ensures { result ≡ slice_get (sources_of self.now.rows self.now.columns self.now.bytes place) i }
     {
-        self.sources(place).into_iter().flatten().nth(i)
+        let sources = self.sources(place);
+        sources.iter().filter_map(|source| *source).nth(i)
     }
 }
