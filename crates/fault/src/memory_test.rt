@@ -2,11 +2,11 @@
 
 pub mod tell;
 
-/// A test of the tables that an atlas works in, with its number, in the order in which the tests are made.
+/// A test of the tables that an atlas works in, in the order in which the tests are made.
 #[derive(Clone, Copy, PartialEq, Eq, Debug)]
 pub enum MemoryTest {
     /// Order and home positions point back at each other, and the order rises by rank, then place, with no rank 0.
-    Order = 1,
+    Order,
     /// Each sketch walked forward matches its walk back, its ends, its owner and its number of entries.
     Links,
     /// Positions along a sketch rise and are below the number swept.
