@@ -51,6 +51,13 @@ pub record Roomy {L : Type 0} (limits : Limits) (t : Tables L) : Type 0 where
   pub few_places : vec_len t.ranks ≤ limits.places
   pub few_arcs : vec_len t.arcs ≤ limits.arcs
 
+-- each table has memory for as many rows as before: nothing was allocated
+pub record SameRoom {L : Type 0} (before after : Tables L) : Type 0 where
+  pub ranks : vec_capacity after.ranks ≡ vec_capacity before.ranks
+  pub names : vec_capacity after.names ≡ vec_capacity before.names
+  pub spans : vec_capacity after.spans ≡ vec_capacity before.spans
+  pub arcs : vec_capacity after.arcs ≡ vec_capacity before.arcs
+
 -- the limits are no wider than those of a town file
 pub record Few (limits : Limits) : Type 0 where
   pub places : limits.places ≤ 4096

@@ -11,7 +11,7 @@ use town_record::rule::Rule;
 
 impl<M: FileMeasure> Filling<M> {
     ghost use Rattle.town.specs.Files.{seen, records, record_count, Accepted, Rejected};
-    ghost use Rattle.town.specs.Holds.{Holds, Empty};
+    ghost use Rattle.town.specs.Holds.{Holds, Empty, SameRoom};
 
     /// Adds what a record says to the tables, or gives the lowest rule that it breaks.
     fn add_record(&mut self, record: &[u8]) -> Result<(), Rule>
@@ -20,6 +20,7 @@ impl<M: FileMeasure> Filling<M> {
             MatchResult result (λ _. Faultless f self.old.limits (seen rs) «record».now × Holds f (rs ++ «record».now ∷ []) self.new.tables)
             (λ rule. Lowest f self.old.limits (seen rs) «record».now rule) }
         ensures refused { OnErr result (self.new ≡ self.old) }
+        ensures same_room { SameRoom self.old.tables self.new.tables }
         ensures limits { self.new.limits ≡ self.old.limits }
     {
         match read_record(record, self.so_far(), self.limits)? {
@@ -35,6 +36,7 @@ impl<M: FileMeasure> Filling<M> {
         ensures cases { MatchResult result (λ _. Accepted M.FileMeasure.form self.old.limits file.now) (Rejected M.FileMeasure.form self.old.limits file.now) }
         ensures holds { OnOk result (Holds M.FileMeasure.form (records file.now (record_count file.now)) self.new.tables) }
         ensures some { OnOk result (1 ≤ vec_len self.new.tables.ranks) }
+        ensures same_room { SameRoom self.old.tables self.new.tables }
         ensures limits { self.new.limits ≡ self.old.limits }
     {
         if file.is_empty() {

@@ -37,6 +37,7 @@ loop-i-preserved g c =
       clean = clean_more f c.args.self.now.limits file i inv.clean
           (subst (λ l. Faultless f l (seen (records file i)) (record_at file i)) inv.limits (subst (λ r. Faultless f c.loop-i.self.limits (seen (records file i)) r) is both.0));
       limits = c.add_record.ensures.limits ∙ inv.limits;
+      same_room = search rules;
     }
 
 pub returns-then-not-is_empty-clause-cases : goal.returns-then-not-is_empty-clause-cases
@@ -55,4 +56,4 @@ returns g c =
     let m = c.as_chunks.ensures.back_len in
     let some : 0 < length file = omega (arith, eqb-false (length file) 0 (sym c.if-is_empty.ensures)) in
     let all = accepted f c.args.self.now.limits file c.loop-i.i-counter inv.clean some (omega arith) (search rules) c.loop-i.self.tables inv.holds in
-    record { cases = all.0; holds = all.1; some = has_place f c.args.self.now.limits file c.loop-i.self.tables all.0 all.1; limits = inv.limits }
+    record { cases = all.0; holds = all.1; some = has_place f c.args.self.now.limits file c.loop-i.self.tables all.0 all.1; limits = inv.limits; same_room = inv.same_room }
