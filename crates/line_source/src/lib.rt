@@ -1,6 +1,8 @@
 //! The lines of an input, one at a time.
 #![tactic(auto)]
 
+ghost use Rattle.std.specs.Prelude.{◌≤◌, length};
+
 use arrayvec::ArrayVec;
 
 mod advance;
@@ -13,4 +15,5 @@ mod feed;
 pub struct LineSource {
     bytes: ArrayVec<u8, 81>,
     number: u64,
+    ghost bounded: { length bytes.items ≤ 81 },
 }

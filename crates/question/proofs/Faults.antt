@@ -1,6 +1,6 @@
 -- Reading word by word: what was read of a line, and the faults of its words as faults of a line of its letter.
 use Rattle.std.proofs.Common.{◌≡◌, ℕ, ◌+◌, ◌<◌, ◌≤◌, List, [], ◌∷◌, ◌++◌, length, get_or, take, set, sym, refl, ap, ◌∙◌, subst, arith}
-use Rattle.std.proofs.lemmas.List.{take_more_set}
+use Rattle.std.proofs.lemmas.List.{take_more_set, take_all}
 use Rattle.fault.specs.declared.line.LineFault.{LineFault}
 use Rattle.fault.specs.declared.line.LineFault.TheVariants.{NoForm, Atlas}
 use Rattle.question.specs.declared.reader.WordReader.{WordReader}
@@ -37,6 +37,10 @@ one_put {line = line} {words = words} {next = next} items i n h t same w =
 pub all_taken : {line ns : List ℕ} {words : WordReader} → Taken line ns words → length (line_of words) ≤ place_of words → Lettering line ns
 all_taken {line = line} {ns = ns} {words = words} t end =
     lettering line ns (place_of words) t.so_far (omega (arith, ap length t.same, t.so_far.within))
+
+-- every word is taken, and the table is full
+pub all_put : {line : List ℕ} {words : WordReader} (items : List ℕ) (i : ℕ) → length items ≤ i → Taken line (take i items) words → length (line_of words) ≤ place_of words → Lettering line items
+all_put {line = line} {words = words} items i full t end = subst (Lettering line) (take_all i items full) (all_taken t end)
 
 module _ (fewest most : ℕ) (line ns : List ℕ) (at : ℕ) (s : SoFar (get_or line 0 0) line ns at) (short : length line ≤ 80) where
   missing : (fault : LineFault) → NoWordAt line at fault → length ns < most → fewest ≤ 2 → fewest ≤ most → (at ≡ length line → length ns < fewest) → NotLettered fewest most line fault

@@ -13,6 +13,7 @@ use fault::line::LineFault;
 use question_lines::word::LONGEST;
 
 /// The numbers of a line whose letter takes so many.
+#[tactic(auto, using(crate::proofs::Faults::all_put))]
 fn numbers<const N: usize>(mut words: WordReader) -> Result<[u32; N], LineFault>
     requires first { place_of words ≡ 1 }
     requires few { N ≤ 2 }

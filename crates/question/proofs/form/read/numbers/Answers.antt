@@ -1,8 +1,8 @@
 -- Each turn takes a word more, and the last leaves nothing.
 use Rattle.std.proofs.Common.{rules, arith}
-use Rattle.std.proofs.lemmas.List.{length-take-le, take_all}
+use Rattle.std.proofs.lemmas.List.{length-take-le}
 use Rattle.std.proofs.lemmas.Result.{err_from_is_err_and}
-use Rattle.question.proofs.Faults.{all_taken, none_left, one_put, some_left}
+use Rattle.question.proofs.Faults.{none_left, one_put, some_left}
 use Rattle.question.proofs.form.read.numbers.Goals as goal
 
 pub returns-in_err-number-clause-read : goal.returns-in_err-number-clause-read
@@ -23,6 +23,3 @@ returns-in_err-end-clause-read g c =
     let p = err_from_is_err_and c.from_residual-in_err-end.result c.from_residual-in_err-end.ensures.1 in
     let many = length-take-le c.loop-number.number-index c.loop-number.number-items (omega arith) in
     rw (p.1, p.2) (some_left c.loop-number.invariant.taken g.row.N _ c.in_err-end.ensures (omega arith))
-
-pub returns-clause-read : goal.returns-clause-read
-returns-clause-read g c = rw (take_all c.loop-number.number-index c.loop-number.number-items (omega arith)) at (all_taken c.loop-number.invariant.taken c.in_ok-end.ensures)
