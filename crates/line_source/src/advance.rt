@@ -3,6 +3,7 @@ ghost use Rattle.std.specs.Prelude.{◌≡◌, ◌+◌, [], ◌∷◌, if◌then
 ghost use Rattle.line_source.specs.Sources.{kept, kept_lines, Begun};
 
 use crate::LineSource;
+use arrayvec::ArrayVec;
 use std::io;
 use std::io::{BufRead, ErrorKind};
 
@@ -20,7 +21,7 @@ impl LineSource {
         ensures { Begun self.old result self.new }
     {
         self.number = self.number.checked_add(1).ok_or_else(too_long)?;
-        self.bytes.clear();
+        self.bytes = ArrayVec::new();
         Ok(())
     }
 
